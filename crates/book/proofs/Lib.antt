@@ -1,0 +1,17 @@
+pub mod Growth
+pub mod Judged
+pub mod JudgementLaws
+pub mod Laid
+pub mod Lasts
+pub mod Limits
+pub mod Offsets
+pub mod Reached
+pub mod RecordLaws
+pub mod RuleAt
+pub mod Sought
+pub mod Stands
+pub mod Steps
+pub mod TestsFrom
+pub mod Walk
+pub mod Witness
+pub mod Wordings

@@ -1,0 +1,10 @@
+pub mod Record
+pub mod Judgement
+pub mod Rules
+pub mod Read
+pub mod Steps
+pub mod Tests
+pub mod Wording
+pub mod Books
+pub mod Limits
+pub mod Stands

@@ -1,0 +1,65 @@
+-- The decimal digits of a number, one at a time from the last, and how many they are.
+-- Assumes nothing.
+use Prim.Native.Nat.{ℕ, zero, suc, _+_, _*_, _/_, _%_, _^_, _≤_, _<_}
+use mathlib.Core.Path.{_≡_, refl, sym, ap, _∙_}
+use mathlib.Core.List.{List, [], _∷_, _++_}
+use native.Mathlib.Decide.{decLe}
+use native.Mathlib.Nat.{pow-suc, lt-of-not-le}
+use native.Mathlib.Omega.{arith}
+use borrow.Author.Tests.{lt-ltb, le-ltb}
+use lib.ListN.{length, length-append}
+use Rattle.numbers.specs.Digits.{digitsTo, digits}
+
+small-to : (most x : ℕ) → x < 10 → digitsTo (suc most) x ≡ (48 + x) ∷ []
+unfolding digitsTo
+small-to most x h = simp (lt-ltb x 10 h)
+
+large-to : (most x : ℕ) → 10 ≤ x → digitsTo (suc most) x ≡ digitsTo most (x / 10) ++ ((48 + x % 10) ∷ [])
+unfolding digitsTo
+large-to most x h = simp (le-ltb x 10 h)
+
+-- any bound that is large enough gives the same digits
+same-to : (f g x : ℕ) → x ≤ f → x ≤ g → digitsTo f x ≡ digitsTo g x
+unfolding digitsTo
+same-to zero zero x h k = refl
+same-to zero (suc g) x h k = let e : x ≡ 0 = omega arith in simp e
+same-to (suc f) zero x h k = let e : x ≡ 0 = omega arith in simp e
+same-to (suc f) (suc g) x h k = elim (decLe 10 x) [
+  | yes w ↦ large-to f x w ∙ ap (λ (l : List ℕ). l ++ ((48 + x % 10) ∷ [])) (same-to f g (x / 10) (omega arith) (omega arith)) ∙ sym (large-to g x w)
+  | no w ↦ small-to f x (lt-of-not-le w) ∙ sym (small-to g x (lt-of-not-le w))
+]
+
+pub digits-small : (x : ℕ) → x < 10 → digits x ≡ (48 + x) ∷ []
+unfolding digits digitsTo
+digits-small zero h = refl
+digits-small (suc n) h = small-to n (suc n) h
+
+pub digits-large : (x : ℕ) → 10 ≤ x → digits x ≡ digits (x / 10) ++ ((48 + x % 10) ∷ [])
+unfolding digits
+digits-large zero h = absurd (omega arith)
+digits-large (suc n) h =
+    large-to n (suc n) h ∙ ap (λ (l : List ℕ). l ++ ((48 + suc n % 10) ∷ [])) (same-to n (suc n / 10) (suc n / 10) (omega arith) (omega arith))
+
+-- ---- how many
+
+pub length-digits-small : (x : ℕ) → x < 10 → length (digits x) ≡ 1
+length-digits-small x h = ap length (digits-small x h)
+
+pub length-digits-large : (x : ℕ) → 10 ≤ x → length (digits x) ≡ length (digits (x / 10)) + 1
+length-digits-large x h = ap length (digits-large x h) ∙ length-append (digits (x / 10)) ((48 + x % 10) ∷ [])
+
+-- a number below 10 ^ (k + 1) has from 1 to k + 1 digits
+pub length-digits : (k x : ℕ) → x < 10 ^ suc k → (1 ≤ length (digits x)) × (length (digits x) ≤ suc k)
+length-digits zero x h = omega (arith, length-digits-small x h)
+length-digits (suc k) x h =
+    let j : x < 10 ^ suc k * 10 = rw (pow-suc 10 (suc k)) at h in
+    elim (decLe 10 x) [
+      | yes w ↦ omega (arith, length-digits-large x w, length-digits k (x / 10) (omega arith))
+      | no w ↦ omega (arith, length-digits-small x (lt-of-not-le w))
+    ]
+
+pub length-digits-32 : (x : ℕ) → x < 2 ^ 32 → (1 ≤ length (digits x)) × (length (digits x) ≤ 10)
+length-digits-32 x h = length-digits 9 x (omega arith)
+
+pub length-digits-16 : (x : ℕ) → x < 2 ^ 16 → (1 ≤ length (digits x)) × (length (digits x) ≤ 5)
+length-digits-16 x h = length-digits 4 x (omega arith)

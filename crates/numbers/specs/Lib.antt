@@ -1,0 +1,4 @@
+pub mod BigEndian
+pub mod Digits
+pub mod Signed
+pub mod Spliced

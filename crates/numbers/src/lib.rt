@@ -1,0 +1,89 @@
+// Numbers in bytes: big-endian and two's complement, as the rule book and the room keep them, and decimal digits, as a line shows them.
+ghost use mathlib.Core.Path.{_≡_};
+ghost use Prim.Native.Nat.{ℕ, _+_, _^_, _≤_, _<_};
+ghost use lib.ListN.{length};
+ghost use Rattle.numbers.specs.BigEndian.{uint, bytes};
+ghost use Rattle.numbers.specs.Digits.{digits};
+ghost use Rattle.numbers.specs.Signed.{signed};
+ghost use Rattle.numbers.specs.Spliced.{spliced};
+
+// A byte as a number: a function, because a byte read from a slice then asks for its index alone.
+fn wide(x: u8) -> u64
+    ensures { λ r. ⌜ r ≡ x ⌝ }
+{
+    x as u64
+}
+
+// The big-endian number of the n bytes of b from i on.
+pub fn uint_at(b: &[u8], i: usize, n: usize) -> u64
+    requires { ⌜ (n ≤ 8) × (i + n ≤ length (now b)) ⌝ }
+    ensures { λ r. ⌜ (r ≡ uint n (now (b .entry)) i) × (r < 256 ^ n) ⌝ }
+{
+    let mut acc: u64 = 0;
+    let mut k: usize = 0;
+    while k < n {
+        let j = i + k;
+        acc = acc * 256 + wide(b[j]);
+        k += 1;
+    }
+    acc
+}
+
+// The whole number that the 64 bits of n are in two's complement.
+pub fn signed_of(n: u64) -> i64
+    ensures { λ r. ⌜ r ≡ signed n ⌝ }
+{
+    if n < 0x8000_0000_0000_0000 {
+        n as i64
+    } else {
+        let k = 0xffff_ffff_ffff_ffff - n;
+        -1 - (k as i64)
+    }
+}
+
+// x in two bytes of out from `at` on, big-endian.
+pub fn put_two(out: &mut [u8], at: usize, x: u16)
+    requires { ⌜ at + 2 ≤ length (now out) ⌝ }
+    ensures { λ _. ⌜ now (out .exit) ≡ spliced (now (out .entry)) at (bytes 2 x) ⌝ }
+{
+    out[at] = (x / 256) as u8;
+    out[at + 1] = (x % 256) as u8;
+}
+
+// x in four bytes of out from `at` on, big-endian.
+pub fn put_four(out: &mut [u8], at: usize, x: u32)
+    requires { ⌜ at + 4 ≤ length (now out) ⌝ }
+    ensures { λ _. ⌜ now (out .exit) ≡ spliced (now (out .entry)) at (bytes 4 x) ⌝ }
+{
+    out[at] = (x / 16777216) as u8;
+    out[at + 1] = (x / 65536 % 256) as u8;
+    out[at + 2] = (x / 256 % 256) as u8;
+    out[at + 3] = (x % 256) as u8;
+}
+
+// How many decimal digits x has.
+pub fn digit_count(x: u32) -> usize
+    ensures { λ r. ⌜ (r ≡ length (digits x)) × (r ≤ 10) ⌝ }
+{
+    let mut n: usize = 1;
+    let mut y = x;
+    while 10 <= y {
+        y = y / 10;
+        n += 1;
+    }
+    n
+}
+
+// The decimal digits of x into the front of `rest`; how many they are.
+pub fn put_digits(rest: &mut [u8], x: u32) -> usize
+    requires { ⌜ length (digits x) ≤ length (now rest) ⌝ }
+    ensures { λ r. ⌜ (r ≡ length (digits x)) × (now (rest .exit) ≡ spliced (now (rest .entry)) 0 (digits x)) ⌝ }
+{
+    if x < 10 {
+        rest[0] = 48 + (x as u8);
+        return 1;
+    }
+    let n = put_digits(rest, x / 10);
+    rest[n] = 48 + ((x % 10) as u8);
+    n + 1
+}
