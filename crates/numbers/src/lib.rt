@@ -1,7 +1,7 @@
 // Numbers in bytes: big-endian and two's complement, as the rule book and the room keep them, and decimal digits, as a line shows them.
 ghost use mathlib.Core.Path.{_≡_};
 ghost use Prim.Native.Nat.{ℕ, _+_, _^_, _≤_, _<_};
-ghost use lib.ListN.{length};
+ghost use lib.ListN.{length, getD};
 ghost use Rattle.numbers.specs.BigEndian.{uint, bytes};
 ghost use Rattle.numbers.specs.Digits.{digits};
 ghost use Rattle.numbers.specs.Signed.{signed};
@@ -27,6 +27,32 @@ pub fn uint_at(b: &[u8], i: usize, n: usize) -> u64
         k += 1;
     }
     acc
+}
+
+// One byte of b, as a number.
+fn byte_at(b: &[u8], i: usize) -> u64
+    requires { ⌜ i < length (now b) ⌝ }
+    ensures { λ r. ⌜ (r ≡ getD (now (b .entry)) i 0) × (r < 256) ⌝ }
+{
+    b[i] as u64
+}
+
+// The big-endian number of the two bytes of b from i on: with no loop, for what is read often.
+pub fn two_at(b: &[u8], i: usize) -> usize
+    requires { ⌜ i + 2 ≤ length (now b) ⌝ }
+    ensures { λ r. ⌜ (r ≡ uint 2 (now (b .entry)) i) × (r < 65536) ⌝ }
+{
+    (byte_at(b, i) * 256 + byte_at(b, i + 1)) as usize
+}
+
+// The same of four bytes.
+pub fn four_at(b: &[u8], i: usize) -> u32
+    requires { ⌜ i + 4 ≤ length (now b) ⌝ }
+    ensures { λ r. ⌜ r ≡ uint 4 (now (b .entry)) i ⌝ }
+{
+    let high = byte_at(b, i) * 256 + byte_at(b, i + 1);
+    let low = byte_at(b, i + 2) * 256 + byte_at(b, i + 3);
+    (high * 65536 + low) as u32
 }
 
 // The whole number that the 64 bits of n are in two's complement.

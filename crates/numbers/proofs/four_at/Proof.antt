@@ -1,0 +1,73 @@
+-- `numbers::four_at` meets its contract: two numbers of two bytes, the first times 65,536. Assumes nothing.
+use native.Mathlib.Nat.{add-zero}
+use Rattle.numbers.specs.BigEndian.{uint}
+use native.Mathlib.Omega.{arith}
+use borrow.Author.Needs.{needs}
+use Rattle.numbers.proofs.four_at.Statement.{statement}
+use Rattle.numbers.proofs.four_at.Tie as tie
+
+byte-at-requires : tie.Need-byte-at-requires
+byte-at-requires c κs = search needs
+
+mul-high : tie.Need-mul-high
+mul-high c = search needs
+
+add-byte-at : tie.Need-add-byte-at
+add-byte-at c = search needs
+
+byte-at-requires-2 : tie.Need-byte-at-requires-2
+byte-at-requires-2 c κs = search needs
+
+add-high : tie.Need-add-high
+add-high c = search needs
+
+add-byte-at-2 : tie.Need-add-byte-at-2
+add-byte-at-2 c = search needs
+
+byte-at-requires-3 : tie.Need-byte-at-requires-3
+byte-at-requires-3 c κs = search needs
+
+mul-low : tie.Need-mul-low
+mul-low c = search needs
+
+add-byte-at-3 : tie.Need-add-byte-at-3
+add-byte-at-3 c = search needs
+
+byte-at-requires-4 : tie.Need-byte-at-requires-4
+byte-at-requires-4 c κs = search needs
+
+add-low : tie.Need-add-low
+add-low c = search needs
+
+mul-result : tie.Need-mul-result
+mul-result c = search needs
+
+add-result : tie.Need-add-result
+add-result c = search needs
+
+cast-result : tie.Need-cast-result
+cast-result c = search needs
+
+returns : tie.Need-returns
+unfolding uint
+returns c = rw add-zero (omega arith)
+
+pub four-at-spec : {M : Type 1} → statement M
+four-at-spec =
+    tie.close
+    (tie.spec
+    byte-at-requires
+    mul-high
+    add-byte-at
+    byte-at-requires-2
+    add-high
+    add-byte-at-2
+    byte-at-requires-3
+    mul-low
+    add-byte-at-3
+    byte-at-requires-4
+    add-low
+    mul-result
+    add-result
+    cast-result
+    returns)
