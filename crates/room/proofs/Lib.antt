@@ -1,0 +1,9 @@
+pub mod BrokenLaws
+pub mod Cut
+pub mod Large
+pub mod Order
+pub mod Put
+pub mod Spliced
+pub mod Twos
+pub mod TwosRead
+pub mod Written

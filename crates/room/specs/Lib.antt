@@ -1,0 +1,5 @@
+pub mod Parts
+pub mod Layout
+pub mod Broken
+pub mod Held
+pub mod Written

@@ -1,0 +1,4 @@
+// The work room: its layout, the rule behind refusal 10, and what is written into its parts.
+pub mod broken;
+pub mod layout;
+pub mod write;
