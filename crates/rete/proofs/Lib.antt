@@ -1,0 +1,12 @@
+pub mod BuiltLaws
+pub mod CountLaws
+pub mod Decode
+pub mod Grown
+pub mod LentLaws
+pub mod OldLaws
+pub mod OrderLaws
+pub mod RowLaws
+pub mod Settled
+pub mod SiftLaws
+pub mod SplicedLaws
+pub mod ViewLaws

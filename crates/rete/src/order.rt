@@ -1,0 +1,72 @@
+// The order of slots: where a reading stands or would stand, and the order with a slot put in or taken out.
+ghost use mathlib.Core.Path.{_≡_};
+ghost use Prim.Native.Nat.{_+_, _≤_, _<_};
+ghost use lib.ListN.{length, take, drop};
+ghost use Rattle.numbers.specs.Spliced.{spliced};
+ghost use Rattle.rete.specs.Row.{leading, lesser, standsAt, movedIn, movedOut};
+use reading::Reading;
+
+// How many of the first n slots have a reading that comes before w.
+pub fn rank_of(order: &[u8], slots: &[u8], n: usize, w: Reading) -> usize
+    requires { ⌜ (n ≤ length (now order)) × (length (now slots) ≡ 3072) ⌝ }
+    ensures { λ r. ⌜ (r ≡ leading (lesser (now (slots .entry)) w) (take n (now (order .entry)))) × (r ≤ n) ⌝ }
+{
+    let mut j: usize = 0;
+    while j < n {
+        let r = reading::reading_at(slots, order[j] as usize);
+        if !reading::is_less(r, w) {
+            return j;
+        }
+        j += 1;
+    }
+    j
+}
+
+// Whether w stands at place p of the first n.
+pub fn stands_at(order: &[u8], slots: &[u8], n: usize, p: usize, w: Reading) -> bool
+    requires { ⌜ (n ≤ length (now order)) × (length (now slots) ≡ 3072) ⌝ }
+    ensures { λ r. ⌜ r ≡ standsAt (now (order .entry)) (now (slots .entry)) n p w ⌝ }
+{
+    if n <= p {
+        return false;
+    }
+    reading::is_same(reading::reading_at(slots, order[p] as usize), w)
+}
+
+// Copies n slots of the order, from `from` on, to place `to` and on.
+fn copy_from(next: &mut [u8], to: usize, order: &[u8], from: usize, n: usize)
+    requires { ⌜ (to + n ≤ length (now next)) × (from + n ≤ length (now order)) ⌝ }
+    ensures { λ _. ⌜ now (next .exit) ≡ spliced (now (next .entry)) to (take n (drop from (now (order .entry)))) ⌝ }
+{
+    let mut i: usize = 0;
+    while i < n {
+        next[to + i] = order[from + i];
+        i += 1;
+    }
+}
+
+// The slot at n goes to place p.
+pub fn put_in(order: &[u8], p: usize, n: usize) -> [u8; 256]
+    requires { ⌜ (length (now order) ≡ 256) × ((p ≤ n) × (n < 256)) ⌝ }
+    ensures { λ r. ⌜ r ≡ movedIn (now (order .entry)) p n ⌝ }
+{
+    let mut next = [0u8; 256];
+    copy_from(&mut next[..], 0, order, 0, p);
+    copy_from(&mut next[..], p, order, n, 1);
+    copy_from(&mut next[..], p + 1, order, p, n - p);
+    copy_from(&mut next[..], n + 1, order, n + 1, 255 - n);
+    next
+}
+
+// The slot at p goes behind the other slots of the first n.
+pub fn taken_from(order: &[u8], p: usize, n: usize) -> [u8; 256]
+    requires { ⌜ (length (now order) ≡ 256) × ((p < n) × (n ≤ 256)) ⌝ }
+    ensures { λ r. ⌜ r ≡ movedOut (now (order .entry)) p n ⌝ }
+{
+    let mut next = [0u8; 256];
+    copy_from(&mut next[..], 0, order, 0, p);
+    copy_from(&mut next[..], p, order, p + 1, n - 1 - p);
+    copy_from(&mut next[..], n - 1, order, p, 1);
+    copy_from(&mut next[..], n, order, n, 256 - n);
+    next
+}
