@@ -1,0 +1,4 @@
+pub mod NoReadings
+pub mod OpenLaws
+pub mod SoundLaws
+pub mod Tables

@@ -1,0 +1,223 @@
+-- A sound room: what it holds is known by its book, its limits and its readings, and its counts are those of the definition.
+-- Assumes nothing.
+use Prim.Native.Nat.{ℕ, zero, suc, _+_, _*_, _-_, _≤_}
+use mathlib.Core.Path.{_≡_, refl, sym, ap, _∙_}
+use mathlib.Core.Bool.{Bool, true, false, cond, false≢true}
+use mathlib.Core.List.{List, [], _∷_, _++_}
+use native.Mathlib.Omega.{arith}
+use borrow.Author.Tests.{ne-eqb}
+use lib.Dec.{eqb, ltb}
+use lib.ListN.{length, take, length-append, length-map}
+use lib.Seq.{length-take-le}
+use Rattle.numbers.specs.BigEndian.{uint}
+use Rattle.reading.specs.declared.Reading.{Reading}
+use Rattle.reading.specs.Reading.{isLess}
+use Rattle.book.specs.Rules.{Rule, lastOr}
+use Rattle.book.specs.Read.{BookRead, readBook, accepted, refused}
+use Rattle.book.proofs.Lasts.{lastOr-snoc}
+use Rattle.matching.specs.Lists.{concatMap}
+use Rattle.matching.specs.Match.{matches, tokenCount}
+use Rattle.matching.specs.Order.{Less, Sorted}
+use Rattle.matching.specs.Complaints.{levels, passOf, ruleComplaints, bookCount, complaints}
+use Rattle.matching.proofs.Laws.Tokens.{length-ruleTokens}
+use Rattle.room.specs.Parts.{twos}
+use Rattle.room.specs.Layout.{headNumber, limit, formula, parts, completesPart, orderPart, nodesPart, lastsPart}
+use Rattle.room.specs.Broken.{broken}
+use Rattle.room.specs.Held.{Stored, Held, Arranged, held, stored, tokensFrom}
+use Rattle.room.proofs.BrokenLaws.{headNumber-at, Whole, not-broken-whole}
+use Rattle.room.proofs.Put.{length-part}
+use Rattle.malletfrond.specs.declared.OpenAnswer.{OpenAnswer}
+use Rattle.malletfrond.specs.declared.OpenAnswer.the-variants as o
+use Rattle.malletfrond.specs.declared.CountsAnswer.{CountsAnswer}
+use Rattle.malletfrond.specs.declared.CountsAnswer.the-variants as c
+use Rattle.malletfrond.specs.Sound.{Sound, heldOf, ruleHeld, tokensHeld, completesOf}
+use Rattle.malletfrond.specs.Answers.{limitsFit, openedBy, openAnswer, completeOf, countsAnswer}
+use Rattle.malletfrond.specs.Promise.{Opens, Counts}
+
+-- ---- the tokens that should be held are as many as the token count says
+
+pub length-tokensHeld : (base : ℕ) (rules : List Rule) (R : List Reading) → length (tokensHeld base rules R) ≡ bookCount rules R
+unfolding tokensHeld ruleHeld bookCount
+length-tokensHeld base [] R = refl
+length-tokensHeld base (rule ∷ rules) R = rw (length-append, length-map, length-ruleTokens rule R, length-tokensHeld (base + levels rule) rules R)
+
+-- ---- the complete matches up to and with the last rule are all complaints
+
+length-complaints : (rule : Rule) (rules : List Rule) (R : List Reading) → length (complaints (rule ∷ rules) R) ≡ length (ruleComplaints rule R) + length (complaints rules R)
+unfolding complaints concatMap
+length-complaints rule rules R = rw (length-append, length-map)
+
+-- complete matches are tokens
+pub complaints-within : (rule : Rule) (R : List Reading) → 1 ≤ levels rule → length (ruleComplaints rule R) ≤ tokenCount R (passOf rule) (levels rule)
+unfolding ruleComplaints tokenCount
+complaints-within rule R = by (levels rule) where
+  by : (m : ℕ) → 1 ≤ m → length (matches R (passOf rule) m) ≤ tokenCount R (passOf rule) m
+  by zero h = absurd (omega arith)
+  by (suc m) h = omega arith
+
+no-complaints : (R : List Reading) → length (complaints [] R) ≡ 0
+unfolding complaints concatMap
+no-complaints R = refl
+
+pub last-completesOf : (at : ℕ) (rules : List Rule) (R : List Reading) → lastOr at (completesOf at rules R) ≡ at + length (complaints rules R)
+unfolding completesOf lastOr
+last-completesOf at [] R = omega (arith, no-complaints R)
+last-completesOf at (rule ∷ rules) R = omega (arith, last-completesOf (at + length (ruleComplaints rule R)) rules R, length-complaints rule rules R)
+
+-- ---- what a room counts is what it holds
+
+length-stored : (ns ls : List ℕ) → length ls ≡ length ns → length (stored ns ls) ≡ length ns
+unfolding stored
+length-stored [] ls e = refl
+length-stored (n ∷ ns) [] e = absurd (omega arith)
+length-stored (n ∷ ns) (s ∷ ls) e = ap suc (length-stored ns ls (omega arith))
+
+length-tokensFrom : {A : Type 0} (lv : ℕ → ℕ) (read : ℕ → A) (carried : List A) (ts : List Stored) → length (tokensFrom lv read carried ts) ≡ length ts
+unfolding tokensFrom
+length-tokensFrom lv read carried [] = refl
+length-tokensFrom lv read carried (t ∷ ts) = ap suc (length-tokensFrom lv read (take (lv (t .node)) carried ++ read (t .last) ∷ []) ts)
+
+last-twos : (n : ℕ) (l : List ℕ) → lastOr 0 (twos n l) ≡ cond (eqb n 0) 0 (uint 2 l ((n - 1) * 2))
+unfolding twos lastOr
+last-twos zero l = refl
+last-twos (suc n) l =
+    let e : suc n - 1 ≡ n = omega arith in
+    lastOr-snoc 0 (twos n l) (uint 2 l (n * 2)) ∙ simp (e, ne-eqb (suc n) 0 (λ (q : suc n ≡ 0). omega arith))
+
+module _ (room : List ℕ) (w : Whole room) where
+  pub length-held-readings : length (held room .readings) ≡ headNumber room 2
+  unfolding held
+  length-held-readings = rw length-map (length-take-le (headNumber room 2) (orderPart (parts room)) (omega (arith, length-part room 8816 256 (omega arith))))
+
+  pub length-held-tokens : length (held room .tokens) ≡ headNumber room 3
+  unfolding held
+  length-held-tokens =
+      let T : ℕ = limit room in
+      let t : ℕ = headNumber room 3 in
+      let ns : length (take t (nodesPart (parts room))) ≡ t = length-take-le t (nodesPart (parts room)) (omega (arith, length-part room 18288 T (omega arith))) in
+      let ls : length (take t (lastsPart (parts room))) ≡ t = length-take-le t (lastsPart (parts room)) (omega (arith, length-part room (18288 + T) T (omega arith))) in
+      simp (length-map, length-tokensFrom) (length-stored _ _ (ls ∙ sym ns) ∙ ns)
+
+pub completeOf-held : (room : List ℕ) → completeOf room ≡ lastOr 0 (held room .completes)
+unfolding held completeOf
+completeOf-held room = sym (last-twos (headNumber room 5) (completesPart (parts room)))
+
+-- ---- a sound room
+
+-- what is held is known by its parts
+pub held-ext : (h k : Held) → h .book ≡ k .book → h .E ≡ k .E → h .T ≡ k .T → h .rulePlaces ≡ k .rulePlaces → h .ruleConditions ≡ k .ruleConditions
+    → h .conditionPlaces ≡ k .conditionPlaces → h .ends ≡ k .ends → h .completes ≡ k .completes → h .readings ≡ k .readings → h .memories ≡ k .memories
+    → h .tokens ≡ k .tokens → h ≡ k
+held-ext h k e1 e2 e3 e4 e5 e6 e7 e8 e9 e10 e11 = rw (e1, e2, e3, e4, e5, e6, e7, e8, e9, e10, e11)
+
+-- what is known of it from what it holds
+pub held-sound : (room book : List ℕ) (rules : List Rule) (E T : ℕ) (R : List Reading) → broken room ≡ false → Arranged room → readBook book ≡ accepted rules
+    → Sorted (Less isLess) R → held room ≡ heldOf book rules E T R → Sound room
+unfolding heldOf
+held-sound room book rules E T R whole arranged reads ascending holds =
+    let b : held room .book ≡ book = ap (λ (h : Held). h .book) holds in
+    let e : held room .E ≡ E = ap (λ (h : Held). h .E) holds in
+    let t : held room .T ≡ T = ap (λ (h : Held). h .T) holds in
+    let r : held room .readings ≡ R = ap (λ (h : Held). h .readings) holds in
+    let own : heldOf (held room .book) rules (held room .E) (held room .T) (held room .readings) ≡ heldOf book rules E T R = rw (b, e, t, r) in
+    record {
+      whole = whole;
+      arranged = arranged;
+      rules = rules;
+      reads = rw b reads;
+      ascending = rw r ascending;
+      holds = holds ∙ sym own;
+    }
+
+-- its counts
+module _ (room : List ℕ) (s : Sound room) where
+  pub sound-tokens : headNumber room 3 ≡ bookCount (s .rules) (held room .readings)
+  unfolding heldOf
+  sound-tokens =
+      sym (length-held-tokens room (not-broken-whole room (s .whole)))
+      ∙ ap (λ (h : Held). length (h .tokens)) (s .holds)
+      ∙ length-tokensHeld 0 (s .rules) (held room .readings)
+
+  pub sound-complete : completeOf room ≡ length (complaints (s .rules) (held room .readings))
+  unfolding heldOf
+  sound-complete =
+      completeOf-held room
+      ∙ ap (λ (h : Held). lastOr 0 (h .completes)) (s .holds)
+      ∙ omega (arith, last-completesOf 0 (s .rules) (held room .readings))
+
+-- ---- two results are the same
+
+-- two sound rooms with the same book have the same rules
+pub sound-rules : (room other : List ℕ) (s : Sound room) (s' : Sound other) → held room .book ≡ held other .book → s .rules ≡ s' .rules
+sound-rules room other s s' b =
+    let e : accepted (s .rules) ≡ accepted (s' .rules) = sym (s .reads) ∙ ap readBook b ∙ s' .reads in
+    cc
+
+-- two sound rooms with the same book, limits and readings hold the same
+pub sound-same : (room other : List ℕ) → Sound room → Sound other → held room .book ≡ held other .book → held room .E ≡ held other .E → held room .T ≡ held other .T
+    → held room .readings ≡ held other .readings → held room ≡ held other
+sound-same room other s s' b e t r =
+    let rules : s .rules ≡ s' .rules = sound-rules room other s s' b in
+    s .holds ∙ rw (rules, b, e, t, r) (sym (s' .holds))
+
+-- ---- openings
+
+-- a room opened is not one refused
+pub opened-not-refused : (a : OpenAnswer) (number place : ℕ) → a ≡ o.Opened → a ≡ o.Refused number place → ⊥
+opened-not-refused a number place e f = let z : _≡_ {A = ℕ} 0 1 = cc in omega arith
+
+-- only an accepted book opens a room
+opened-reads : (fit short : Bool) (b : BookRead) → o.Opened ≡ cond fit (cond short (o.Refused 9 0) (openedBy b)) (o.Refused 8 0) → (rules : List Rule) × (b ≡ accepted rules)
+unfolding openedBy
+opened-reads true true b e = absurd (opened-not-refused o.Opened 9 0 refl e)
+opened-reads true false (accepted rules) e = (rules, refl)
+opened-reads true false (refused number place) e = absurd (opened-not-refused o.Opened number place refl e)
+opened-reads false short b e = absurd (opened-not-refused o.Opened 8 0 refl e)
+
+pub opens-reads : (room book : List ℕ) (E T : ℕ) (answer : OpenAnswer) (room' : List ℕ) → Opens room book E T answer room' → answer ≡ o.Opened
+    → (rules : List Rule) × (readBook book ≡ accepted rules)
+unfolding openAnswer
+opens-reads room book E T answer room' p e = opened-reads (limitsFit E T) (ltb (length room) (formula E T)) (readBook book) (sym e ∙ p .answered)
+
+-- two rooms opened for one book with the same limits hold the same, whatever they held before and however long they are
+pub opened-same : (room other book : List ℕ) (E T : ℕ) (a b : OpenAnswer) (room' other' : List ℕ) → Opens room book E T a room' → Opens other book E T b other'
+    → a ≡ o.Opened → b ≡ o.Opened → held room' ≡ held other'
+opened-same room other book E T a b room' other' p q e f =
+    let r = opens-reads room book E T a room' p e in
+    p .holds (r .0) e (r .1) ∙ sym (q .holds (r .0) f (r .1))
+
+-- two results that an opening allows, in rooms as long as each other: the same answer, and if they were opened they hold the same
+pub opens-same : (room other book : List ℕ) (E T : ℕ) (a b : OpenAnswer) (room' other' : List ℕ) → length room ≡ length other → Opens room book E T a room'
+    → Opens other book E T b other' → (a ≡ b) × (a ≡ o.Opened → held room' ≡ held other')
+opens-same room other book E T a b room' other' long p q =
+    let same : a ≡ b = p .answered ∙ ap (λ (n : ℕ). openAnswer n book E T) long ∙ sym (q .answered) in
+    (same, λ e. opened-same room other book E T a b room' other' p q e (sym same ∙ e))
+
+-- ---- counts
+
+module _ (room : List ℕ) where
+  pub counts-broken : broken room ≡ true → Counts room (c.Refused 10)
+  unfolding countsAnswer
+  counts-broken h = record { answered = simp h; defined = λ s. absurd (false≢true (sym (s .whole) ∙ h)) }
+
+  -- the numbers of the header, as they are read
+  pub counts-whole : broken room ≡ false → (readings tokens complete : ℕ) → readings ≡ uint 2 room 4 → tokens ≡ uint 2 room 6 → complete ≡ completeOf room
+      → Counts room (c.Counted readings tokens complete)
+  unfolding countsAnswer
+  counts-whole h readings tokens complete r t m =
+      let n : headNumber room 2 ≡ readings = headNumber-at room 2 (omega arith) ∙ sym r in
+      let k : headNumber room 3 ≡ tokens = headNumber-at room 3 (omega arith) ∙ sym t in
+      record {
+        answered = simp (h, n, k, m);
+        defined = λ s. rw (length-held-readings room (not-broken-whole room h) ∙ n, sym (sound-tokens room s) ∙ k, sym (sound-complete room s), m);
+      }
+
+-- two results that counting allows: of one room, whatever it holds; and of two sound rooms that hold the same
+pub counts-same : (room : List ℕ) (a b : CountsAnswer) → Counts room a → Counts room b → a ≡ b
+counts-same room a b p q = p .answered ∙ sym (q .answered)
+
+pub counts-sound-same : (room other : List ℕ) (a b : CountsAnswer) → Sound room → Sound other → held room ≡ held other → Counts room a → Counts other b → a ≡ b
+counts-sound-same room other a b s s' same p q =
+    let rules : s .rules ≡ s' .rules = sound-rules room other s s' (ap (λ (h : Held). h .book) same) in
+    let r : held room .readings ≡ held other .readings = ap (λ (h : Held). h .readings) same in
+    p .defined s ∙ rw (rules, r) (sym (q .defined s'))
