@@ -1,5 +1,6 @@
 pub mod BrokenLaws
 pub mod Cut
+pub mod HeldLaws
 pub mod Large
 pub mod Order
 pub mod Put
