@@ -175,12 +175,12 @@ module _ (room room' book : List ℕ) (rules : List Rule) (E T : ℕ) (fit : Lim
       let end : 18288 + T + T ≡ 18288 + T * 2 = omega arith in
       rw end at (ap (λ (qs : List (List ℕ)). restPart qs) written)
 
-  opens-opened : Opens room book E T o.Opened room'
+  opens-opened : Opens room book E T (o.Opened 0 0 0) room'
   unfolding openAnswer openedBy
   opens-opened =
       record {
         answered = sym (simp (limits-fit E T .1 fit, le-ltb (length room) (18288 + T * 2) large, reads));
-        untouched = λ number place e. absurd (opened-not-refused o.Opened number place refl e);
+        untouched = λ number place e. absurd (opened-not-refused (o.Opened 0 0 0) number place refl e);
         sound = λ e. opened-sound;
         holds = λ others e again. let same : rules ≡ others = cc in rw same at opened-holds;
         past = opened-past;
@@ -192,7 +192,7 @@ module _ (room room' book : List ℕ) (rules : List Rule) (E T : ℕ) (fit : Lim
 module _ (room book : List ℕ) (E T : ℕ) where
   opens-refused : (number place : ℕ) → openAnswer (length room) book E T ≡ o.Refused number place → Opens room book E T (o.Refused number place) room
   opens-refused number place e =
-      let never : o.Refused number place ≡ o.Opened → ⊥ = λ q. opened-not-refused _ number place q refl in
+      let never : o.Refused number place ≡ (o.Opened 0 0 0) → ⊥ = λ q. opened-not-refused _ number place q refl in
       record {
         answered = sym e;
         untouched = λ n p q. refl;
@@ -256,7 +256,7 @@ module _ (book : List ℕ) (p : Placed) (n c : ℕ) (f : Found book p n c) where
       }
 
   pub opens-found : (room room' : List ℕ) (E T : ℕ) → limitsFit E T ≡ true → formula E T ≤ length room → length room' ≡ length room
-      → cut 0 (widths T) room' ≡ opened E T book n c (p .places .rules) (p .places .counts) (p .places .conditions) (cut 0 (widths T) room) → Opens room book E T o.Opened room'
+      → cut 0 (widths T) room' ≡ opened E T book n c (p .places .rules) (p .places .counts) (p .places .conditions) (cut 0 (widths T) room) → Opens room book E T (o.Opened 0 0 0) room'
   unfolding placesOf
   opens-found room room' E T fit large long written =
       opens-opened room room' book (f .rules) E T (limits-fit E T .0 fit) (f .reads) large long (rw (f .number, f .conditions, f .places) at written)

@@ -163,32 +163,32 @@ sound-same room other s s' b e t r =
 -- ---- openings
 
 -- a room opened is not one refused
-pub opened-not-refused : (a : OpenAnswer) (number place : ℕ) → a ≡ o.Opened → a ≡ o.Refused number place → ⊥
+pub opened-not-refused : (a : OpenAnswer) (number place : ℕ) → a ≡ (o.Opened 0 0 0) → a ≡ o.Refused number place → ⊥
 opened-not-refused a number place e f = let z : _≡_ {A = ℕ} 0 1 = cc in omega arith
 
 -- only an accepted book opens a room
-opened-reads : (fit short : Bool) (b : BookRead) → o.Opened ≡ cond fit (cond short (o.Refused 9 0) (openedBy b)) (o.Refused 8 0) → (rules : List Rule) × (b ≡ accepted rules)
+opened-reads : (fit short : Bool) (b : BookRead) → (o.Opened 0 0 0) ≡ cond fit (cond short (o.Refused 9 0) (openedBy b)) (o.Refused 8 0) → (rules : List Rule) × (b ≡ accepted rules)
 unfolding openedBy
-opened-reads true true b e = absurd (opened-not-refused o.Opened 9 0 refl e)
+opened-reads true true b e = absurd (opened-not-refused (o.Opened 0 0 0) 9 0 refl e)
 opened-reads true false (accepted rules) e = (rules, refl)
-opened-reads true false (refused number place) e = absurd (opened-not-refused o.Opened number place refl e)
-opened-reads false short b e = absurd (opened-not-refused o.Opened 8 0 refl e)
+opened-reads true false (refused number place) e = absurd (opened-not-refused (o.Opened 0 0 0) number place refl e)
+opened-reads false short b e = absurd (opened-not-refused (o.Opened 0 0 0) 8 0 refl e)
 
-pub opens-reads : (room book : List ℕ) (E T : ℕ) (answer : OpenAnswer) (room' : List ℕ) → Opens room book E T answer room' → answer ≡ o.Opened
+pub opens-reads : (room book : List ℕ) (E T : ℕ) (answer : OpenAnswer) (room' : List ℕ) → Opens room book E T answer room' → answer ≡ (o.Opened 0 0 0)
     → (rules : List Rule) × (readBook book ≡ accepted rules)
 unfolding openAnswer
 opens-reads room book E T answer room' p e = opened-reads (limitsFit E T) (ltb (length room) (formula E T)) (readBook book) (sym e ∙ p .answered)
 
 -- two rooms opened for one book with the same limits hold the same, whatever they held before and however long they are
 pub opened-same : (room other book : List ℕ) (E T : ℕ) (a b : OpenAnswer) (room' other' : List ℕ) → Opens room book E T a room' → Opens other book E T b other'
-    → a ≡ o.Opened → b ≡ o.Opened → held room' ≡ held other'
+    → a ≡ (o.Opened 0 0 0) → b ≡ (o.Opened 0 0 0) → held room' ≡ held other'
 opened-same room other book E T a b room' other' p q e f =
     let r = opens-reads room book E T a room' p e in
     p .holds (r .0) e (r .1) ∙ sym (q .holds (r .0) f (r .1))
 
 -- two results that an opening allows, in rooms as long as each other: the same answer, and if they were opened they hold the same
 pub opens-same : (room other book : List ℕ) (E T : ℕ) (a b : OpenAnswer) (room' other' : List ℕ) → length room ≡ length other → Opens room book E T a room'
-    → Opens other book E T b other' → (a ≡ b) × (a ≡ o.Opened → held room' ≡ held other')
+    → Opens other book E T b other' → (a ≡ b) × (a ≡ (o.Opened 0 0 0) → held room' ≡ held other')
 opens-same room other book E T a b room' other' long p q =
     let same : a ≡ b = p .answered ∙ ap (λ (n : ℕ). openAnswer n book E T) long ∙ sym (q .answered) in
     (same, λ e. opened-same room other book E T a b room' other' p q e (sym same ∙ e))

@@ -18,7 +18,7 @@ limitsFit E T = leb 1 E && leb E 256 && (leb 1 T && leb T 2048)
 
 -- an opening by its book: accepted, or the book's refusal with its place
 unfoldable pub openedBy : BookRead → OpenAnswer
-openedBy (accepted rules) = o.Opened
+openedBy (accepted rules) = (o.Opened 0 0 0)
 openedBy (refused number place) = o.Refused number place
 
 -- "Opening: 8, 9, the book."

@@ -19,8 +19,8 @@ use Rattle.malletfrond.specs.Answers.{openAnswer, countsAnswer}
 pub record Opens (room book : List ℕ) (E T : ℕ) (answer : OpenAnswer) (room' : List ℕ) : Type 0 where
   pub answered : answer ≡ openAnswer (length room) book E T
   pub untouched : (number place : ℕ) → answer ≡ o.Refused number place → room' ≡ room
-  pub sound : answer ≡ o.Opened → Sound room'
-  pub holds : (rules : List Rule) → answer ≡ o.Opened → readBook book ≡ accepted rules → held room' ≡ heldOf book rules E T []
+  pub sound : answer ≡ (o.Opened 0 0 0) → Sound room'
+  pub holds : (rules : List Rule) → answer ≡ (o.Opened 0 0 0) → readBook book ≡ accepted rules → held room' ≡ heldOf book rules E T []
   pub past : drop (formula E T) room' ≡ drop (formula E T) room
   pub long : length room' ≡ length room
 

@@ -6,7 +6,9 @@ pub mod LentLaws
 pub mod OldLaws
 pub mod OrderLaws
 pub mod RowLaws
+pub mod RuleLaws
 pub mod Settled
 pub mod SiftLaws
 pub mod SplicedLaws
+pub mod Untouched
 pub mod ViewLaws
