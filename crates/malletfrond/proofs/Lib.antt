@@ -1,4 +1,13 @@
+pub mod Agree
+pub mod Entries
+pub mod Levels
 pub mod NoReadings
 pub mod OpenLaws
+pub mod Slots
 pub mod SoundLaws
+pub mod SoundRoom
+pub mod Stored
+pub mod Stretches
 pub mod Tables
+pub mod TokensBuilt
+pub mod Views
