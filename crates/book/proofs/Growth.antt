@@ -1,8 +1,8 @@
 -- What one record more makes of the rules read: their standing, their size in bytes, and their places. Assumes nothing.
-use Prim.Native.Nat.{ℕ, zero, suc, _+_, _-_, _≤_, _<_}
+use Prim.Native.Nat.{ℕ, suc, _+_, _-_, _≤_, _<_}
 use mathlib.Core.Path.{_≡_, refl, sym, ap, _∙_}
 use mathlib.Core.List.{List, [], _∷_, _++_, map, append-assoc, append-nil}
-use native.Mathlib.Nat.{add-zero, zero-add, add-assoc}
+use native.Mathlib.Nat.{add-zero, zero-add}
 use native.Mathlib.Omega.{arith}
 use lib.ListN.{length, set, replicate, length-append, length-set}
 use lib.Seq.{set-at, set-append-left}
@@ -13,7 +13,7 @@ use Rattle.book.specs.Steps.{ruleNoted, conditionNoted}
 use borrow.Author.Tests.{lt-leb, le-ltb, ne-eqb}
 use Rattle.book.specs.Rules.{Rule, lastOr, onLast, noRule, withCondition, withTest, conditionCount, standing, testsSize, conditionsSize, rulesSize, rulePlaces, conditionPlacesIn, conditionPlaces, padded, placesOf}
 use Rattle.book.proofs.Judged.{standing-some}
-use Rattle.book.proofs.Lasts.{lastOr-snoc, length-onLast, lastOr-onLast, lastOr-any, map-onLast, map-onLast-same}
+use Rattle.book.proofs.Lasts.{lastOr-snoc, length-onLast, lastOr-onLast, map-onLast, map-onLast-same}
 
 -- a rule that has no condition yet
 abbrev pub bare : ℕ → List ℕ → Rule

@@ -1,6 +1,6 @@
 -- A list's last element: what it is, and what a change of it leaves. Assumes nothing.
-use Prim.Native.Nat.{ℕ, zero, suc, _+_, _-_, _≤_, _<_}
-use mathlib.Core.Path.{_≡_, refl, sym, ap, _∙_}
+use Prim.Native.Nat.{suc, _+_, _-_, _≤_}
+use mathlib.Core.Path.{_≡_, refl, ap}
 use mathlib.Core.List.{List, [], _∷_, _++_, map}
 use native.Mathlib.Omega.{arith}
 use lib.ListN.{length, set}
@@ -23,12 +23,6 @@ module _ {A : Type 0} where
   lastOr-onLast f d [] h = absurd (omega arith)
   lastOr-onLast f d (a ∷ []) h = refl
   lastOr-onLast f d (a ∷ (b ∷ l)) h = lastOr-onLast f a (b ∷ l) (omega arith)
-
-  -- a last element is the same whatever stands for none
-  pub lastOr-any : (d e : A) (l : List A) → 1 ≤ length l → lastOr d l ≡ lastOr e l
-  unfolding lastOr
-  lastOr-any d e [] h = absurd (omega arith)
-  lastOr-any d e (a ∷ l) h = refl
 
   -- what is read off each element but changes in the last alone
   pub map-onLast : {B : Type 0} (g : A → B) (f : A → A) (d : A) (l : List A) → 1 ≤ length l → map g (onLast f l) ≡ set (map g l) (length l - 1) (g (f (lastOr d l)))

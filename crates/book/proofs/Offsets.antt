@@ -7,13 +7,13 @@ use mathlib.Core.Bool.{Bool, true, false, cond}
 use native.Mathlib.Nat.{add-zero, zero-add}
 use native.Mathlib.Omega.{arith}
 use lib.Dec.{eqb}
-use lib.ListN.{length, take, drop, getD, length-append}
+use lib.ListN.{length, take, drop, getD}
 use Rattle.numbers.specs.BigEndian.{uint}
 use Rattle.book.specs.declared.record.Test.{Test}
 use Rattle.book.specs.declared.rules.WordingPlace.{WordingPlace}
 use Rattle.book.specs.declared.rules.WordingPlace.the-variants.{At, Refused}
 use Rattle.book.specs.Record.{recordAt, testSize}
-use Rattle.book.specs.Rules.{Rule, conditionCount, testsSize, conditionsSize, rulesSize, rulePlaces, conditionPlacesIn, conditionPlaces}
+use Rattle.book.specs.Rules.{Rule, testsSize, conditionsSize, rulesSize, rulePlaces, conditionPlacesIn, conditionPlaces}
 use Rattle.book.specs.Tests.{testsFrom, testsAt}
 use Rattle.book.specs.Wording.{wordingIn, wordingPlaceIn, sought}
 use Rattle.book.specs.Stands.{Laid, TestsStand, ConditionsStand, RulesStand, BookStands, conditionsOf}

@@ -1,12 +1,11 @@
 -- How far a reading has come: the rules read so far, in the code's numbers and arrays, and what is left of the definition's walk. Assumes nothing.
-use Prim.Native.Nat.{ℕ, zero, suc, _+_, _-_, _*_, _≤_, _<_}
+use Prim.Native.Nat.{ℕ, suc, _+_, _-_, _*_, _≤_, _<_}
 use mathlib.Core.Path.{_≡_, refl, sym, ap, _∙_}
 use mathlib.Core.Bool.{Bool, true, false}
 use mathlib.Core.List.{List, [], _∷_, _++_}
-use native.Mathlib.Nat.{add-zero, zero-add}
 use native.Mathlib.Numerals.{add-one}
 use native.Mathlib.Omega.{arith}
-use borrow.Author.Tests.{le-ltb, lt-ltb, ne-eqb, eqb-true, eqb-false}
+use borrow.Author.Tests.{le-ltb, lt-ltb, ne-eqb, eqb-true}
 use lib.Dec.{eqb}
 use lib.ListN.{length, drop}
 use Rattle.book.specs.declared.judgement.Standing.{Standing}
@@ -21,7 +20,7 @@ use Rattle.book.specs.declared.record.Record.the-variants as r
 use Rattle.book.specs.declared.record.Test.{Test}
 use Rattle.book.specs.declared.record.Size.the-variants.{Bytes}
 use Rattle.book.specs.Record.{recordAt, testSize, sizeOf}
-use Rattle.book.specs.Judgement.{judged, wordingOf, after, unfinished, Within}
+use Rattle.book.specs.Judgement.{judged, wordingOf, after, Within}
 use Rattle.book.specs.Rules.{Rule, lastOr, onLast, noRule, withCondition, withTest, standing, testsSize, conditionsSize, rulesSize, placesOf, padded, rulePlaces, conditionPlaces, conditionCount}
 use Rattle.book.specs.Read.{BookRead, accepted, refused, unless, grown, bytesOf, ended, turn, walk, readBook, answerOf, rulesOf, placedOf}
 use Rattle.book.specs.Steps.{overIf, endOf, stepBy, stepOf, ruleNoted, conditionNoted, noted, noPlaces, closed, closedBy}

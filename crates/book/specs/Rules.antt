@@ -1,5 +1,5 @@
 -- The book as values: rules with number, wording and conditions, a condition as its list of tests; and where each stands. Assumes nothing: these are definitions.
-use Prim.Native.Nat.{ℕ, zero, suc, _+_, _-_}
+use Prim.Native.Nat.{ℕ, _+_, _-_}
 use mathlib.Core.List.{List, [], _∷_, _++_, map}
 use lib.ListN.{length, replicate}
 use Rattle.book.specs.declared.judgement.Standing.{Standing}

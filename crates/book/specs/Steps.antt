@@ -1,6 +1,6 @@
 -- What the reader's inner functions answer, a record at a time. No public contract cites this. Assumes nothing: these are definitions.
 use Prim.Native.Nat.{ℕ, _+_, _-_}
-use mathlib.Core.List.{List, []}
+use mathlib.Core.List.{List}
 use mathlib.Core.Bool.{cond}
 use lib.Dec.{leb, ltb, eqb}
 use lib.ListN.{length, drop, set, replicate}

@@ -1,15 +1,15 @@
 -- The twelve bytes of a reading: written four by four, and read back. Assumes nothing.
-use Prim.Native.Nat.{ℕ, _+_, _*_, _^_, _≤_, _<_}
-use mathlib.Core.Path.{_≡_, refl, sym, ap, _∙_}
-use mathlib.Core.List.{List, [], _∷_, _++_, append-assoc}
+use Prim.Native.Nat.{ℕ, _+_, _≤_}
+use mathlib.Core.Path.{_≡_, ap, _∙_}
+use mathlib.Core.List.{List, _++_, append-assoc}
 use native.Mathlib.Omega.{arith}
-use lib.ListN.{length, take, drop, getD, length-append}
-use Rattle.numbers.specs.BigEndian.{uint, bytes}
+use lib.ListN.{length, length-append}
+use Rattle.numbers.specs.BigEndian.{bytes}
 use Rattle.numbers.specs.Spliced.{spliced}
-use Rattle.numbers.proofs.BigEndian.{length-bytes, uint-ext, uint-spliced-before, uint-spliced-in, uint-spliced-after, uint-bytes}
+use Rattle.numbers.proofs.BigEndian.{length-bytes}
 use Rattle.numbers.proofs.Spliced.{spliced-twice}
 use Rattle.reading.specs.declared.Reading.{Reading}
-use Rattle.reading.specs.Reading.{readingBytes, readingAt}
+use Rattle.reading.specs.Reading.{readingBytes}
 
 pub length-readingBytes : (r : Reading) → length (readingBytes r) ≡ 12
 unfolding readingBytes

@@ -1,10 +1,9 @@
 -- The rule behind refusal 10, over the bytes of a room: docs/ROOM.md writes it out. Assumes nothing: these are definitions.
-use Prim.Native.Nat.{ℕ, zero, suc, _+_, _*_}
-use mathlib.Core.Bool.{Bool, true, false, not, _&&_, _||_}
+use Prim.Native.Nat.{ℕ, _+_}
+use mathlib.Core.Bool.{Bool, true, not, _&&_, _||_}
 use mathlib.Core.List.{List, [], _∷_}
 use lib.Dec.{ltb, leb, eqb}
-use lib.ListN.{length, take, getD}
-use Rattle.numbers.specs.BigEndian.{uint}
+use lib.ListN.{length, take}
 use Rattle.room.specs.Parts.{part, twos}
 use Rattle.room.specs.Layout.{headNumber, formula}
 

@@ -1,8 +1,8 @@
 -- A room written, part by part: opened, or after a step. Assumes nothing: these are definitions.
-use Prim.Native.Nat.{ℕ, _+_, _*_, _≤_, _<_}
+use Prim.Native.Nat.{ℕ, _+_, _*_, _≤_}
 use mathlib.Core.Path.{_≡_}
 use mathlib.Core.List.{List, [], _∷_, _++_}
-use lib.ListN.{length, take, drop, replicate}
+use lib.ListN.{length, take, replicate}
 use Rattle.numbers.specs.BigEndian.{bytes}
 use Rattle.numbers.specs.Spliced.{spliced}
 use Rattle.reading.specs.declared.Reading.{Reading}

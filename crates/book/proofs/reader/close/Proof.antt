@@ -1,7 +1,5 @@
 use Rattle.book.proofs.Steps.{close-accepted, close-refused, close-on}
 -- `book::reader::close` meets its contract, case by case. Assumes nothing.
-use Rattle.book.specs.Steps.{closed, closedBy}
-use mathlib.Core.Path.{ap, sym, _∙_}
 use borrow.Author.Needs.{needs}
 use Rattle.book.proofs.reader.close.Statement.{statement}
 use Rattle.book.proofs.reader.close.Tie as tie

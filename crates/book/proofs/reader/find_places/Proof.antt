@@ -3,11 +3,9 @@ use Rattle.book.specs.Steps.{closed, noted}
 use Rattle.book.specs.Rules.{standing, lastOr, noRule, conditionCount}
 use Rattle.book.specs.declared.reader.Step.the-variants.{Over}
 use Rattle.book.specs.declared.reader.Step.{Step}
-use Rattle.book.specs.declared.reader.Places.{Places}
-use Rattle.book.specs.declared.judgement.Standing.{Standing}
 -- `book::reader::find_places` meets its contract. The invariant: some rules are read, the locals are their standing and places, and the rest of the
 -- definition's walk is what is left to do. The measure is the bytes that are left. Assumes nothing.
-use Prim.Native.Nat.{ℕ, _-_, _≤_, _<_}
+use Prim.Native.Nat.{_-_, _≤_}
 use mathlib.Core.Path.{_≡_, refl, ap, sym, _∙_}
 use lib.ListN.{length}
 use borrow.Author.Needs.{needs}
