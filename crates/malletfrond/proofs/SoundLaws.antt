@@ -31,7 +31,8 @@ use Rattle.malletfrond.specs.declared.OpenAnswer.the-variants as o
 use Rattle.malletfrond.specs.declared.CountsAnswer.{CountsAnswer}
 use Rattle.malletfrond.specs.declared.CountsAnswer.the-variants as c
 use Rattle.malletfrond.specs.Sound.{Sound, heldOf, ruleHeld, tokensHeld, completesOf}
-use Rattle.malletfrond.specs.Answers.{limitsFit, openedBy, openAnswer, completeOf, countsAnswer}
+use Rattle.malletfrond.specs.Answers.{limitsFit, openedBy, openAnswer, countsAnswer}
+use Rattle.room.specs.Held.{completeOf}
 use Rattle.malletfrond.specs.Promise.{Opens, Counts}
 
 -- ---- the tokens that should be held are as many as the token count says

@@ -1,12 +1,12 @@
 -- 01's numbers and values for each case of the answers. Assumes nothing: these are definitions.
-use Prim.Native.Nat.{ℕ, _-_, _*_}
+use Prim.Native.Nat.{ℕ}
 use mathlib.Core.Bool.{Bool, cond, _&&_}
 use mathlib.Core.List.{List}
-use lib.Dec.{ltb, leb, eqb}
-use Rattle.numbers.specs.BigEndian.{uint}
+use lib.Dec.{ltb, leb}
 use Rattle.book.specs.Read.{BookRead, accepted, refused, readBook}
-use Rattle.room.specs.Layout.{formula, headNumber, parts, completesPart}
+use Rattle.room.specs.Layout.{formula, headNumber}
 use Rattle.room.specs.Broken.{broken}
+use Rattle.room.specs.Held.{completeOf}
 use Rattle.malletfrond.specs.declared.OpenAnswer.{OpenAnswer}
 use Rattle.malletfrond.specs.declared.OpenAnswer.the-variants as o
 use Rattle.malletfrond.specs.declared.CountsAnswer.{CountsAnswer}
@@ -25,10 +25,6 @@ openedBy (refused number place) = o.Refused number place
 unfoldable pub openAnswer : ℕ → List ℕ → ℕ → ℕ → OpenAnswer
 openAnswer lent book E T =
     cond (limitsFit E T) (cond (ltb lent (formula E T)) (o.Refused 9 0) (openedBy (readBook book))) (o.Refused 8 0)
-
--- the complete matches that a room counts: those up to and with its last rule
-unfoldable pub completeOf : List ℕ → ℕ
-completeOf room = cond (eqb (headNumber room 5) 0) 0 (uint 2 (completesPart (parts room)) ((headNumber room 5 - 1) * 2))
 
 -- "10"; else readings, tokens, complete matches
 unfoldable pub countsAnswer : List ℕ → CountsAnswer
