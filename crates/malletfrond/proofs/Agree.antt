@@ -1,6 +1,6 @@
 -- A slot passes a condition as its reading does, where the memories and the tests at the conditions' places are those of the rules: the memory says that the
 -- tests which need no other condition pass, and the others are asked. Assumes nothing.
-use Prim.Native.Nat.{ℕ, suc, _+_, _<_}
+use Prim.Native.Nat.{ℕ, suc, _+_, _-_, _≤_, _<_}
 use mathlib.Core.Path.{_≡_, refl, sym, ap, ap₂, _∙_}
 use mathlib.Core.Bool.{Bool, _&&_}
 use mathlib.Core.Logic.{_⊎_, ⊎-elim}
@@ -17,6 +17,7 @@ use Rattle.matching.specs.Complaints.{levels, testsOf, passOf, memory, memories
 use Rattle.matching.proofs.Laws.Alpha.{passesAll-split, getD-memoriesFrom}
 use Rattle.room.specs.Held.{sifted}
 use Rattle.room.specs.Parts.{below}
+use Rattle.rete.proofs.Grown.{le-or-lt}
 use Rattle.malletfrond.proofs.Entries.{Entries, entries-left, entries-right, entries-append, map-entries}
 use Rattle.malletfrond.proofs.Slots.{Distinct, sifted-keep, keep-sifted}
 use Rattle.malletfrond.proofs.TokensBuilt.{Agrees}
@@ -96,12 +97,27 @@ bits-either read bit os a b h c [] f g = tt
 bits-either read bit os a b h c (rule ∷ rules) f g =
     (λ j s l m. ⊎-elim (f .0 j s l) (g .0 j s l) (h s m), bits-either read bit os a b h (c + levels rule) rules (f .1) (g .1))
 
--- only the readings and the bits of the slots at hand matter
-pub bits-ext : (os : List ℕ) (read read' : ℕ → Reading) (bit bit' : ℕ → ℕ → Bool) → ((s : ℕ) → List·Memᴰ s os → read s ≡ read' s) → ((c s : ℕ) → List·Memᴰ s os → bit c s ≡ bit' c s)
-    → (c : ℕ) (rules : List Rule) → Bits os read bit c rules → Bits os read' bit' c rules
-bits-ext os read read' bit bit' same bits c [] f = tt
-bits-ext os read read' bit bit' same bits c (rule ∷ rules) f =
-    (λ j s l m. sym (bits (c + j) s m) ∙ f .0 j s l m ∙ ap (alpha (testsOf rule j) j) (same s m), bits-ext os read read' bit bit' same bits (c + levels rule) rules (f .1))
+-- only the readings of the slots at hand matter, and their bits of the conditions at hand
+pub bits-ext : (os : List ℕ) (read read' : ℕ → Reading) (bit bit' : ℕ → ℕ → Bool) (top : ℕ) → ((s : ℕ) → List·Memᴰ s os → read s ≡ read' s)
+    → ((c s : ℕ) → c < top → List·Memᴰ s os → bit c s ≡ bit' c s) → (c : ℕ) (rules : List Rule) → c + conditionCount rules ≤ top → Bits os read bit c rules → Bits os read' bit' c rules
+unfolding conditionCount
+bits-ext os read read' bit bit' top same bits c [] h f = tt
+bits-ext os read read' bit bit' top same bits c (rule ∷ rules) h f = (
+  λ j s l m. sym (bits (c + j) s (omega arith) m) ∙ f .0 j s l m ∙ ap (alpha (testsOf rule j) j) (same s m),
+  bits-ext os read read' bit bit' top same bits (c + levels rule) rules (omega arith) (f .1),
+)
+
+-- the readings tell the bits: any two that do say the same of the slots and conditions at hand
+pub bits-same : (os : List ℕ) (read : ℕ → Reading) (bit bit' : ℕ → ℕ → Bool) (c : ℕ) (rules : List Rule) → Bits os read bit c rules → Bits os read bit' c rules
+    → (n s : ℕ) → n < conditionCount rules → List·Memᴰ s os → bit (c + n) s ≡ bit' (c + n) s
+unfolding conditionCount
+bits-same os read bit bit' c [] f g n s l m = absurd (omega arith)
+bits-same os read bit bit' c (rule ∷ rules) f g n s l m = ⊎-elim
+    (λ (h : levels rule ≤ n).
+    let e : c + n ≡ c + levels rule + (n - levels rule) = omega arith in
+    rw e (bits-same os read bit bit' (c + levels rule) rules (f .1) (g .1) (n - levels rule) s (omega arith) m))
+    (λ (h : n < levels rule). f .0 n s h m ∙ sym (g .0 n s h m))
+    (le-or-lt (levels rule) n)
 
 -- ---- a slot passes as its reading does
 

@@ -11,7 +11,7 @@ use Rattle.room.specs.Parts.{below}
 use Rattle.room.proofs.Order.{length-below}
 use Rattle.rete.proofs.Grown.{le-or-lt}
 
-getD-map : {A B : Type 0} (f : A → B) (l : List A) (k : ℕ) (d : A) (e : B) → k < length l → getD (map f l) k e ≡ f (getD l k d)
+pub getD-map : {A B : Type 0} (f : A → B) (l : List A) (k : ℕ) (d : A) (e : B) → k < length l → getD (map f l) k e ≡ f (getD l k d)
 getD-map f [] k d e h = absurd (omega arith)
 getD-map f (a ∷ l) zero d e h = refl
 getD-map f (a ∷ l) (suc k) d e h = getD-map f l k d e (omega arith)

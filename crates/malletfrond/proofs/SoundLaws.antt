@@ -213,12 +213,6 @@ module _ (room : List ℕ) where
         defined = λ s. rw (length-held-readings room (not-broken-whole room h) ∙ n, sym (sound-tokens room s) ∙ k, sym (sound-complete room s), m);
       }
 
--- two results that counting allows: of one room, whatever it holds; and of two sound rooms that hold the same
+-- two results that counting allows, of one room, whatever it holds
 pub counts-same : (room : List ℕ) (a b : CountsAnswer) → Counts room a → Counts room b → a ≡ b
 counts-same room a b p q = p .answered ∙ sym (q .answered)
-
-pub counts-sound-same : (room other : List ℕ) (a b : CountsAnswer) → Sound room → Sound other → held room ≡ held other → Counts room a → Counts other b → a ≡ b
-counts-sound-same room other a b s s' same p q =
-    let rules : s .rules ≡ s' .rules = sound-rules room other s s' (ap (λ (h : Held). h .book) same) in
-    let r : held room .readings ≡ held other .readings = ap (λ (h : Held). h .readings) same in
-    p .defined s ∙ rw (rules, r) (sym (q .defined s'))

@@ -8,7 +8,8 @@ use native.Mathlib.Omega.{arith}
 use lib.ListN.{length, take}
 use Rattle.numbers.specs.BigEndian.{uint}
 use Rattle.book.specs.declared.record.Test.{Test}
-use Rattle.book.specs.Rules.{conditionPlaces}
+use Rattle.book.specs.Rules.{Rule, conditionPlaces}
+use Rattle.book.specs.Read.{readBook, accepted}
 use Rattle.book.specs.Limits.{Kept}
 use Rattle.book.specs.Stands.{conditionsOf}
 use Rattle.book.specs.Tests.{testsAt}
@@ -19,27 +20,25 @@ use Rattle.reading.specs.declared.Reading.{Reading}
 use Rattle.reading.specs.Reading.{readingAt}
 use Rattle.matching.specs.Complaints.{levels, memories, bookCount}
 use Rattle.room.specs.Parts.{below, twos}
-use Rattle.room.specs.Layout.{headNumber, parts, bookPart, conditionPlacesPart, ruleConditionsPart, endsPart, slotsPart, rowsPart, nodesPart, lastsPart}
+use Rattle.room.specs.Layout.{headNumber, parts, conditionPlacesPart, ruleConditionsPart, endsPart, completesPart, slotsPart, rowsPart, nodesPart, lastsPart}
 use Rattle.room.specs.Held.{Held, held, level, inMemory, slotsOf, storedOf, tokensFrom}
 use Rattle.room.proofs.BrokenLaws.{Whole, not-broken-whole}
 use Rattle.room.proofs.Order.{length-below}
 use Rattle.room.proofs.Put.{length-part}
 use Rattle.room.proofs.TwosRead.{length-twos, getD-twos}
-use Rattle.rete.specs.Rules.{rulesBuilt, endsBuilt, Stretches}
+use Rattle.rete.specs.Rules.{rulesBuilt, endsBuilt, completesBuilt, Stretches}
+use Rattle.checking.proofs.Planes.{length-stored}
+use Rattle.step.specs.Worked.{bookIn}
 use Rattle.malletfrond.specs.Sound.{Sound, heldOf, tokensHeld}
 use Rattle.malletfrond.proofs.Agree.{memoryAt, passSlot, Bits, memories-bits, bits-agree}
 use Rattle.malletfrond.proofs.Entries.{Entries, entries-map, getD-below}
 use Rattle.malletfrond.proofs.Levels.{levelled-all}
 use Rattle.malletfrond.proofs.Slots.{Distinct, read-injective}
 use Rattle.malletfrond.proofs.Stored.{asToken, asToken-injective, tokens-injective}
-use Rattle.malletfrond.proofs.Stretches.{length-stored, stored-used, stretches-built}
-use Rattle.malletfrond.proofs.TokensBuilt.{Agrees, rulesBuilt-tokens, rulesBuilt-used, length-rulesBuilt, endsBuilt-of}
+use Rattle.malletfrond.proofs.Stretches.{stored-used, stretches-built}
+use Rattle.malletfrond.proofs.TokensBuilt.{Agrees, rulesBuilt-tokens, rulesBuilt-used, length-rulesBuilt, endsBuilt-of, completesBuilt-of}
 
 module _ (room : List ℕ) where
-  -- the book that a room holds
-  abbrev pub bookIn : List ℕ
-  bookIn = take (headNumber room 4) (bookPart (parts room))
-
   -- the reading at a slot, its bit of condition c, and the tests of condition c, as the room says
   abbrev pub readIn : ℕ → Reading
   readIn s = readingAt (slotsPart (parts room)) s
@@ -48,10 +47,28 @@ module _ (room : List ℕ) where
   bitIn c s = inMemory (rowsPart (parts room)) c s
 
   abbrev pub testsIn : ℕ → List Test
-  testsIn c = testsAt bookIn (uint 2 (conditionPlacesPart (parts room)) (c * 2))
+  testsIn c = testsAt (bookIn room) (uint 2 (conditionPlacesPart (parts room)) (c * 2))
 
   abbrev pub passIn : ℕ → List Reading → ℕ → Bool
   passIn = passSlot readIn bitIn testsIn
+
+  -- the tests at the conditions' places are those of the rules
+  pub placed-tests : (rules : List Rule) → readBook (bookIn room) ≡ accepted rules → twos (headNumber room 6) (conditionPlacesPart (parts room)) ≡ conditionPlaces 0 rules
+      → Entries [] testsIn 0 (conditionsOf rules)
+  placed-tests rules reads placed =
+      let n : ℕ = headNumber room 6 in
+      let places : List ℕ = conditionPlacesPart (parts room) in
+      entries-map [] (λ c. uint 2 places (c * 2)) (testsAt (bookIn room)) (twos n places) (conditionsOf rules)
+      (λ k b. getD-twos n places k (rw (length-twos n places) at b))
+      (ap (map (testsAt (bookIn room))) placed ∙ conditionPlaces-tests (bookIn room) rules (read-stands (bookIn room) rules reads .0) (read-kept (bookIn room) rules reads))
+
+  -- both planes have place for the tokens
+  module _ (w : Whole room) where
+    pub nodes-long : headNumber room 3 ≤ length (nodesPart (parts room))
+    nodes-long = omega (arith, length-part room 18288 (headNumber room 1) (omega arith))
+
+    pub lasts-long : headNumber room 3 ≤ length (lastsPart (parts room))
+    lasts-long = omega (arith, length-part room (18288 + headNumber room 1) (headNumber room 1) (omega arith))
 
   module _ (s : Sound room) where
     -- how many conditions each rule has
@@ -64,7 +81,7 @@ module _ (room : List ℕ) where
 
     pub sound-kept : Kept (s .rules)
     unfolding held
-    sound-kept = read-kept bookIn (s .rules) (s .reads)
+    sound-kept = read-kept (bookIn room) (s .rules) (s .reads)
 
     pub sound-bits : Bits (slotsOf room) readIn bitIn 0 (s .rules)
     unfolding held heldOf
@@ -76,13 +93,7 @@ module _ (room : List ℕ) where
 
     pub sound-tests : Entries [] testsIn 0 (conditionsOf (s .rules))
     unfolding held heldOf
-    sound-tests =
-        let n : ℕ = headNumber room 6 in
-        let places : List ℕ = conditionPlacesPart (parts room) in
-        let placed : twos n places ≡ conditionPlaces 0 (s .rules) = ap (λ (h : Held). h .conditionPlaces) (s .holds) in
-        entries-map [] (λ c. uint 2 places (c * 2)) (testsAt bookIn) (twos n places) (conditionsOf (s .rules))
-        (λ k b. getD-twos n places k (rw (length-twos n places) at b))
-        (ap (map (testsAt bookIn)) placed ∙ conditionPlaces-tests bookIn (s .rules) (read-stands bookIn (s .rules) (s .reads) .0) sound-kept)
+    sound-tests = placed-tests (s .rules) (s .reads) (ap (λ (h : Held). h .conditionPlaces) (s .holds))
 
     pub sound-agrees : Agrees (slotsOf room) readIn passIn 0 (s .rules)
     sound-agrees = bits-agree (slotsOf room) readIn bitIn testsIn 0 (s .rules) sound-bits sound-tests
@@ -110,27 +121,21 @@ module _ (room : List ℕ) where
     unfolding held heldOf
     sound-ends = ap (λ (h : Held). h .ends) (s .holds) ∙ sym (endsBuilt-of (slotsOf room) readIn passIn 0 0 (s .rules) sound-agrees)
 
-    -- both planes have place for the tokens
-    nodes-long : headNumber room 3 ≤ length (nodesPart (parts room))
-    nodes-long =
-        let w : Whole room = not-broken-whole room (s .whole) in
-        let long : length (nodesPart (parts room)) ≡ headNumber room 1 = length-part room 18288 (headNumber room 1) (omega arith) in
-        omega arith
-
-    lasts-long : headNumber room 3 ≤ length (lastsPart (parts room))
-    lasts-long =
-        let w : Whole room = not-broken-whole room (s .whole) in
-        let long : length (lastsPart (parts room)) ≡ headNumber room 1 = length-part room (18288 + headNumber room 1) (headNumber room 1) (omega arith) in
-        omega arith
+    pub sound-completes : twos (headNumber room 5) (completesPart (parts room)) ≡ completesBuilt (slotsOf room) readIn passIn 0 0 countsOf
+    unfolding held heldOf
+    sound-completes =
+        ap (λ (h : Held). h .completes) (s .holds) ∙ sym (completesBuilt-of (slotsOf room) readIn passIn 0 0 (s .rules) (sound-kept .some) sound-agrees)
 
     pub sound-stretches : Stretches (nodesPart (parts room)) (lastsPart (parts room)) (slotsOf room) readIn passIn 0 0 (twos (headNumber room 5) (endsPart (parts room))) countsOf
     sound-stretches =
+        let w : Whole room = not-broken-whole room (s .whole) in
         rw sound-ends
-        (stretches-built (nodesPart (parts room)) (lastsPart (parts room)) (slotsOf room) readIn passIn (headNumber room 3) nodes-long lasts-long 0 0 countsOf (omega arith) sound-tokens)
+        (stretches-built (nodesPart (parts room)) (lastsPart (parts room)) (slotsOf room) readIn passIn (headNumber room 3) (nodes-long w) (lasts-long w) 0 0 countsOf (omega arith) sound-tokens)
 
     -- the tokens in the header are as many as the definition says
     pub sound-count : headNumber room 3 ≡ bookCount (s .rules) (held room .readings)
     unfolding held
     sound-count =
-        sym (length-stored (headNumber room 3) (nodesPart (parts room)) (lastsPart (parts room)) nodes-long lasts-long) ∙ ap length sound-tokens
+        let w : Whole room = not-broken-whole room (s .whole) in
+        sym (length-stored (headNumber room 3) (nodesPart (parts room)) (lastsPart (parts room)) (nodes-long w) (lasts-long w)) ∙ ap length sound-tokens
         ∙ length-rulesBuilt (slotsOf room) readIn passIn 0 (s .rules) sound-agrees

@@ -4,7 +4,7 @@ use mathlib.Core.Path.{_≡_, refl, sym, ap, _∙_}
 use mathlib.Core.Bool.{Bool}
 use mathlib.Core.Logic.{⊎-elim}
 use mathlib.Core.List.{List, [], _∷_, _++_}
-use mathlib.Core.List.{List·Memᴰ, List·Memᴰ·not-nil, List·Memᴰ·cases-cons, Memᴰ·cast}
+use mathlib.Core.List.{List·Memᴰ, List·Memᴰ·head, List·Memᴰ·tail, List·Memᴰ·not-nil, List·Memᴰ·cases-cons, Memᴰ·cast}
 use native.Mathlib.Omega.{arith}
 use lib.ListN.{length, take, drop, getD, length-append, length-take}
 use lib.Seq.{length-take-le, take-take, take-add, drop-at, take-append-seam}
@@ -25,13 +25,6 @@ stored-take (suc m) [] ls = refl
 stored-take (suc m) (n ∷ ns) [] = refl
 stored-take (suc m) (n ∷ ns) (s ∷ ls) = ap (λ (l : List Stored). token n s ∷ l) (stored-take m ns ls)
 
-pub length-stored : (n : ℕ) (ns ls : List ℕ) → n ≤ length ns → n ≤ length ls → length (stored (take n ns) (take n ls)) ≡ n
-unfolding stored
-length-stored zero ns ls h k = refl
-length-stored (suc n) [] ls h k = absurd (omega arith)
-length-stored (suc n) (x ∷ ns) [] h k = absurd (omega arith)
-length-stored (suc n) (x ∷ ns) (y ∷ ls) h k = ap suc (length-stored n ns ls (omega arith) (omega arith))
-
 pub stored-used : (os : List ℕ) (n : ℕ) (ns ls : List ℕ) → ((k : ℕ) → k < n → List·Memᴰ (getD ls k 0) os) → Used os (stored (take n ns) (take n ls))
 unfolding stored
 stored-used os zero ns ls h t m = absurd (List·Memᴰ·not-nil m)
@@ -39,6 +32,15 @@ stored-used os (suc n) [] ls h t m = absurd (List·Memᴰ·not-nil m)
 stored-used os (suc n) (x ∷ ns) [] h t m = absurd (List·Memᴰ·not-nil m)
 stored-used os (suc n) (x ∷ ns) (y ∷ ls) h t m =
     ⊎-elim (λ e. Memᴰ·cast (ap (λ (z : Stored). z .last) e) (h 0 (omega arith))) (stored-used os n ns ls (λ k b. h (suc k) (omega arith)) t) (List·Memᴰ·cases-cons m)
+
+pub used-stored : (os : List ℕ) (n : ℕ) (ns ls : List ℕ) → n ≤ length ns → n ≤ length ls → Used os (stored (take n ns) (take n ls))
+    → (k : ℕ) → k < n → List·Memᴰ (getD ls k 0) os
+unfolding stored
+used-stored os zero ns ls h i u k l = absurd (omega arith)
+used-stored os (suc n) [] ls h i u k l = absurd (omega arith)
+used-stored os (suc n) (x ∷ ns) [] h i u k l = absurd (omega arith)
+used-stored os (suc n) (x ∷ ns) (y ∷ ls) h i u zero l = u (token x y) (List·Memᴰ·head refl)
+used-stored os (suc n) (x ∷ ns) (y ∷ ls) h i u (suc k) l = used-stored os n ns ls (omega arith) (omega arith) (λ t m. u t (List·Memᴰ·tail m)) k (omega arith)
 
 -- ---- old tokens: those from i on, as many as there are up to n, and the first of them
 

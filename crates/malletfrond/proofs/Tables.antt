@@ -1,7 +1,7 @@
 -- The tables of a book in a room: lists filled up with zeros, and read back from two bytes each. What stands there is within the book, so that two bytes hold it.
 -- Assumes nothing.
 use Prim.Native.Nat.{ℕ, zero, suc, _+_, _*_, _-_, _≤_, _<_}
-use mathlib.Core.Path.{_≡_, refl, ap, _∙_}
+use mathlib.Core.Path.{_≡_, refl, sym, ap, _∙_}
 use mathlib.Core.List.{List, [], _∷_, _++_}
 use native.Mathlib.Omega.{arith}
 use native.Mathlib.Numerals.{add-one}
@@ -11,10 +11,11 @@ use Rattle.numbers.specs.BigEndian.{uint}
 use Rattle.book.specs.declared.record.Test.{Test}
 use Rattle.book.specs.Rules.{Rule, conditionCount, testsSize, conditionsSize, rulesSize, rulePlaces, conditionPlacesIn, conditionPlaces, padded}
 use Rattle.book.specs.Limits.{All, RuleKept}
-use Rattle.book.proofs.Growth.{counts}
+use Rattle.book.proofs.Growth.{counts, length-conditionPlaces}
 use Rattle.room.specs.Parts.{twos, twosBytes}
 use Rattle.room.specs.Broken.{sum}
 use Rattle.room.proofs.Twos.{twos-prefix}
+use Rattle.room.proofs.TwosRead.{length-twos}
 
 -- ---- numbers that are at most some bound, wherever they stand in a list
 
@@ -53,6 +54,10 @@ conditionPlaces-most most at (rule ∷ rules) h i =
     (conditionPlacesIn-most most (at + 27) (rule .conditions) (omega arith))
     (conditionPlaces-most most (at + (27 + conditionsSize (rule .conditions))) rules (omega arith))
     i
+
+-- as many places as conditions
+pub places-counted : (n : ℕ) (b : List ℕ) (rules : List Rule) → twos n b ≡ conditionPlaces 0 rules → n ≡ conditionCount rules
+places-counted n b rules e = sym (length-twos n b) ∙ ap length e ∙ length-conditionPlaces 0 rules
 
 -- ---- a list filled up with zeros: its front, and read back from two bytes each
 

@@ -17,14 +17,15 @@ use Rattle.matching.specs.Lists.{concatMap, keep}
 use Rattle.matching.specs.Match.{tokenCount}
 use Rattle.matching.specs.Preorder.{ofLength}
 use Rattle.matching.specs.Complaints.{levels, passOf, ruleTokens, ruleComplaints, bookCount, complaints, matchedBy}
-use Rattle.matching.proofs.Laws.Lists.{length-snoc, concatMap-ext, keep-map, keep-ext}
+use Rattle.matching.proofs.Laws.Lists.{keep-map, keep-ext}
 use Rattle.matching.proofs.Laws.Members.{mem-when, mem-concatMap, mem-forest}
 use Rattle.matching.proofs.Laws.Tokens.{length-ruleTokens, ruleTokens-complaints}
 use Rattle.room.specs.Held.{Stored, tokensFrom}
 use Rattle.room.proofs.BrokenLaws.{agreed}
 use Rattle.rete.specs.Built.{built, stem, branch, nodes}
-use Rattle.rete.specs.Rules.{timesOf, rulesBuilt, endsBuilt, completesBuilt, completeBuilt, Stretches}
+use Rattle.rete.specs.Rules.{timesOf, rulesBuilt, endsBuilt, completesBuilt, completeBuilt}
 use Rattle.rete.proofs.Decode.{decoded, Reads, reads-built, atNode, decoded-forest}
+use Rattle.checking.proofs.Extent.{built-ext}
 use Rattle.malletfrond.specs.Sound.{ruleHeld, tokensHeld, endsOf, completesOf}
 use Rattle.malletfrond.proofs.Levels.{Levelled, levelled-here, levelled-past}
 use Rattle.malletfrond.proofs.Stored.{Used, asToken, length-tokensFrom, nodes-tokensFrom}
@@ -32,36 +33,6 @@ use Rattle.malletfrond.proofs.Stored.{Used, asToken, length-tokensFrom,
 -- every rule has a condition
 abbrev pub Some : List Rule → Type 0
 Some rules = All (λ rule. 0 < length (rule .conditions)) rules
-
--- only the readings at the slots offered matter, and what passes at the conditions at hand
-module _ (os : List ℕ) (read read' : ℕ → Reading) (pass pass' : ℕ → List Reading → ℕ → Bool) (same : (s : ℕ) → List·Memᴰ s os → read s ≡ read' s) where
-  built-ext : (c left k : ℕ) (t : List Reading) → length t ≡ k
-      → ((j : ℕ) (t : List Reading) (s : ℕ) → j < k + left → length t ≡ j → List·Memᴰ s os → pass (c + j) t s ≡ pass' (c + j) t s)
-      → built os read pass left (c + k) t ≡ built os read' pass' left (c + k) t
-  unfolding built
-  built-ext c zero k t l h = refl
-  built-ext c (suc left) k t l h = concatMap-ext (branch os read pass left (c + k) t) (branch os read' pass' left (c + k) t) os
-      (λ s m.
-      let e : c + k + 1 ≡ c + suc k = omega arith in
-      let ih : built os read pass left (c + k + 1) (t ++ read' s ∷ []) ≡ built os read' pass' left (c + k + 1) (t ++ read' s ∷ []) =
-      rw e (built-ext c left (suc k) (t ++ read' s ∷ []) (length-snoc t (read' s) ∙ ap suc l) (λ j t s b. h j t s (omega arith))) in
-      rw (h k t s (omega arith) l m, same s m, ih))
-
-  module _ (agree : (c : ℕ) (t : List Reading) (s : ℕ) → List·Memᴰ s os → pass c t s ≡ pass' c t s) where
-    rule-ext : (c k : ℕ) → built os read pass k c [] ≡ built os read' pass' k c []
-    rule-ext c k =
-        let e : c + 0 ≡ c = omega arith in
-        rw e at (built-ext c k 0 [] refl (λ j t s b l. agree (c + j) t s))
-
-    pub rulesBuilt-ext : (c : ℕ) (ks : List ℕ) → rulesBuilt os read pass c ks ≡ rulesBuilt os read' pass' c ks
-    unfolding rulesBuilt
-    rulesBuilt-ext c [] = refl
-    rulesBuilt-ext c (k ∷ ks) = ap₂ _++_ (rule-ext c k) (rulesBuilt-ext (c + k) ks)
-
-    pub stretches-ext : (ns ls : List ℕ) (i c : ℕ) (es ks : List ℕ) → Stretches ns ls os read pass i c es ks → Stretches ns ls os read' pass' i c es ks
-    stretches-ext ns ls i c es [] h = tt
-    stretches-ext ns ls i c [] (k ∷ ks) h = h
-    stretches-ext ns ls i c (e ∷ es) (k ∷ ks) h = (h .0, h .1 ∙ rule-ext c k, stretches-ext ns ls e (c + k) es ks (h .2))
 
 module _ (os : List ℕ) (read : ℕ → Reading) (pass : ℕ → List Reading → ℕ → Bool) where
   -- a slot passes the conditions of a rule as its reading does, the first condition being node c
@@ -109,20 +80,15 @@ module _ (os : List ℕ) (read : ℕ → Reading) (pass : ℕ → List Reading �
         sym (length-tokensFrom (λ n. n - c) read [] (built os read pass (levels rule) c [])) ∙ ap length built-tokens
         ∙ length-map (ruleTokens rule (map read os)) (atNode c) ∙ length-ruleTokens rule (map read os)
 
-    nodes-built : nodes (built os read pass (levels rule) c []) ≡ map (λ u. c + (length u - 1)) (ruleTokens rule (map read os))
-    nodes-built =
-        sym (nodes-tokensFrom (λ n. n - c) read [] (built os read pass (levels rule) c [])) ∙ ap (map (λ (p : ℕ × List Reading). p .0)) built-tokens
-        ∙ map-map (λ (p : ℕ × List Reading). p .0) (atNode c) (ruleTokens rule (map read os))
-
     -- a token at the rule's last node is a complete match
-    pub complete-built : 1 ≤ levels rule → timesOf (c + levels rule - 1) (nodes (built os read pass (levels rule) c [])) ≡ length (ruleComplaints rule (map read os))
+    pub full-built : 1 ≤ levels rule → keep (λ t. eqb (t .0) (c + levels rule - 1)) (tokensFrom (λ n. n - c) read [] (built os read pass (levels rule) c []))
+        ≡ map (atNode c) (ruleComplaints rule (map read os))
     unfolding ofLength ruleTokens
-    complete-built some =
+    full-built some =
         let R : List Reading = map read os in
         let last : ℕ = c + levels rule - 1 in
-        ap (timesOf last) nodes-built ∙ ap length (keep-map (λ x. eqb x last) (λ u. c + (length u - 1)) (ruleTokens rule R))
-        ∙ length-map (keep (λ u. eqb (c + (length u - 1)) last) (ruleTokens rule R)) (λ u. c + (length u - 1))
-        ∙ ap length (keep-ext (λ u. eqb (c + (length u - 1)) last) (λ u. eqb (length u) (levels rule)) (ruleTokens rule R) each ∙ ruleTokens-complaints rule R some)
+        ap (keep (λ t. eqb (t .0) last)) built-tokens ∙ keep-map (λ t. eqb (t .0) last) (atNode c) (ruleTokens rule R)
+        ∙ ap (map (atNode c)) (keep-ext (λ u. eqb (c + (length u - 1)) last) (λ u. eqb (length u) (levels rule)) (ruleTokens rule R) each ∙ ruleTokens-complaints rule R some)
       where
         each : (u : List Reading) → List·Memᴰ u (ruleTokens rule (map read os)) → eqb (c + (length u - 1)) (c + levels rule - 1) ≡ eqb (length u) (levels rule)
         each u m =
@@ -132,6 +98,15 @@ module _ (os : List ℕ) (read : ℕ → Reading) (pass : ℕ → List Reading �
               λ t. eq-eqb (length u) (levels rule) (omega (arith, eqb-true (c + (length u - 1)) (c + levels rule - 1) t)),
               λ t. eq-eqb (c + (length u - 1)) (c + levels rule - 1) (omega (arith, eqb-true (length u) (levels rule) t)),
             )
+
+    -- so they are as many
+    pub complete-built : 1 ≤ levels rule → timesOf (c + levels rule - 1) (nodes (built os read pass (levels rule) c [])) ≡ length (ruleComplaints rule (map read os))
+    complete-built some =
+        let last : ℕ = c + levels rule - 1 in
+        let tokens : List (ℕ × List Reading) = tokensFrom (λ n. n - c) read [] (built os read pass (levels rule) c []) in
+        ap (timesOf last) (sym (nodes-tokensFrom (λ n. n - c) read [] (built os read pass (levels rule) c [])))
+        ∙ ap length (keep-map (λ x. eqb x last) (λ t. t .0) tokens) ∙ length-map (keep (λ t. eqb (t .0) last) tokens) (λ t. t .0)
+        ∙ ap length (full-built some) ∙ length-map (ruleComplaints rule (map read os)) (atNode c)
 
   -- ---- the tokens of all rules
 

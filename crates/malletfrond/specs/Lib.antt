@@ -1,3 +1,5 @@
 pub mod Sound
 pub mod Answers
 pub mod Promise
+pub mod Runs
+pub mod Demand

@@ -1,12 +1,12 @@
--- A part of a list written over: how long the list is, what stands before, in and after that part, and one part written behind another.
+-- A part of a list written over: how long the list is, what stands before, in and after that part, one part written behind another, and a part lent from the middle.
 -- Assumes nothing.
 use Prim.Native.Nat.{ℕ, _+_, _-_, _≤_, _<_}
 use mathlib.Core.Path.{_≡_, sym, ap, _∙_}
-use mathlib.Core.List.{List, [], _∷_, _++_, append-assoc}
+use mathlib.Core.List.{List, [], _∷_, _++_, append-assoc, append-nil}
 use native.Mathlib.Nat.{add-zero, zero-add}
 use native.Mathlib.Omega.{arith}
-use lib.ListN.{length, take, drop, getD, set, length-append, length-drop, take-append-drop, List·getD-append}
-use lib.Seq.{length-take-le, take-take, take-append-le, take-append-seam, take-at, drop-at, drop-drop, getD-take, getD-drop, sets, sets-eq}
+use lib.ListN.{length, take, drop, getD, set, length-append, length-drop, drop-of-length-le, take-append-drop, List·getD-append}
+use lib.Seq.{length-take-le, take-all, take-take, take-append-le, take-append-seam, take-at, drop-at, drop-drop, getD-take, getD-drop, sets, sets-eq}
 use Rattle.numbers.specs.Spliced.{spliced}
 
 module _ {A : Type 0} where
@@ -92,3 +92,17 @@ module _ {A : Type 0} where
         ap length regrouped
         ∙ length-append (take a xs ++ ys) (drop (a + length ys) xs)
         ∙ omega (arith, length-head (omega arith), length-drop (a + length ys) xs)
+
+  -- ---- a part lent from the middle
+
+  -- the rest from a on, lent, with ys written at its front: it comes back before what stood behind it, and that is nothing
+  pub lent-spliced : (xs : List A) (a : ℕ) (ys : List A) {r : List A} → r ≡ spliced (take (length xs - a) (drop a xs)) 0 ys
+      → take a xs ++ (r ++ drop (length xs - a) (drop a xs)) ≡ spliced xs a ys
+  unfolding spliced
+  lent-spliced xs a ys {r} e =
+      let rest : List A = drop a xs in
+      let n : ℕ = length xs - a in
+      let short : length rest ≤ n = omega (arith, length-drop a xs) in
+      let front : r ≡ ys ++ drop (a + length ys) xs =
+      e ∙ spliced-front (take n rest) ys ∙ ap (λ (l : List A). ys ++ drop (length ys) l) (take-all n rest short) ∙ ap (λ (l : List A). ys ++ l) (drop-drop (length ys) a xs) in
+      ap (λ (l : List A). take a xs ++ (r ++ l)) (drop-of-length-le rest short) ∙ ap (λ (l : List A). take a xs ++ l) (append-nil r ∙ front)

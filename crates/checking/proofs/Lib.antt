@@ -1,0 +1,10 @@
+pub mod Answers
+pub mod Extent
+pub mod Fronts
+pub mod IndexLaws
+pub mod Joined
+pub mod Noted
+pub mod Numbers
+pub mod Planes
+pub mod RowsLaws
+pub mod TokensAnew

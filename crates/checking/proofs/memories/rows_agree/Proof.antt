@@ -1,0 +1,193 @@
+-- `checking::memories::rows_agree` meets its contract. The loop's invariant: the rows of the slots before place `i` of the order are as asked, and the numbers of
+-- the header are as read. The measure is how many slots are left. Assumes nothing.
+use Prim.Native.Nat.{ℕ, _+_, _-_, _≤_, _<_}
+use mathlib.Core.Bool.{true, false≢true}
+use mathlib.Core.Logic.{_↔_}
+use mathlib.Core.Path.{_≡_, sym, _∙_}
+use native.Mathlib.Omega.{arith}
+use borrow.Author.Tests.{not-true, not-false}
+use borrow.Author.Count.{below-none, below-more}
+use borrow.Author.Needs.{needs}
+use lib.ListN.{getD, length-take, length-drop}
+use Rattle.checking.proofs.Answers.{yes, no}
+use Rattle.checking.proofs.RowsLaws.{RowAgrees, rows-known, row-known}
+use Rattle.checking.proofs.Numbers.{Numbered, bounds, row-asked}
+use Rattle.checking.proofs.memories.rows_agree.Statement.{statement}
+use Rattle.checking.proofs.memories.rows_agree.Tie as tie
+
+abbrev Inv-loop : tie.InvT-loop
+Inv-loop room n end rules conditions i₀ i = (i ≤ n) × (Numbered room n end rules conditions × ((k : ℕ) → k < i → RowAgrees room (getD room (8816 + k) 0)))
+
+abbrev μ-loop : tie.MeasureT-loop
+μ-loop room n end rules conditions i₀ i = n - i
+
+two-at-requires : tie.Need-two-at-requires Inv-loop μ-loop
+two-at-requires c κs = let b = bounds _ (c .before .pre) in omega arith
+
+two-at-requires-2 : tie.Need-two-at-requires-2 Inv-loop μ-loop
+two-at-requires-2 c κs = let b = bounds _ (c .before .before .pre) in omega arith
+
+add-end : tie.Need-add-end Inv-loop μ-loop
+add-end c = search needs
+
+two-at-requires-3 : tie.Need-two-at-requires-3 Inv-loop μ-loop
+two-at-requires-3 c κs = let b = bounds _ (c .before .before .before .pre) in omega arith
+
+two-at-requires-4 : tie.Need-two-at-requires-4 Inv-loop μ-loop
+two-at-requires-4 c κs = let b = bounds _ (c .before .before .before .before .pre) in omega arith
+
+loop-holds : tie.Need-loop-holds Inv-loop μ-loop
+loop-holds c = (
+  omega arith,
+  (
+    record {
+      bounded = bounds _ (c .before .before .before .before .before .pre);
+      readings = c .before .before .before .two-at .ensures .0;
+      book = omega arith;
+      rules = c .before .two-at3 .ensures .0;
+      conditions = c .two-at4 .ensures .0;
+    },
+    below-none _,
+  ),
+)
+
+add-s : tie.Need-add-s Inv-loop μ-loop
+add-s c = search needs
+
+shared-slice-read-s : tie.Need-shared-slice-read-s Inv-loop μ-loop
+shared-slice-read-s c = let l = c .before .before .loop in omega arith
+
+cast-s : tie.Need-cast-s Inv-loop μ-loop
+cast-s c = omega (arith, c .shared-slice-known2 .given (8816 + c .before .before .loop .i))
+
+sub-reading-at : tie.Need-sub-reading-at Inv-loop μ-loop
+sub-reading-at c = search needs
+
+part-reading-at-start : tie.Need-part-reading-at-start Inv-loop μ-loop
+part-reading-at-start c = search needs
+
+part-reading-at-end : tie.Need-part-reading-at-end Inv-loop μ-loop
+part-reading-at-end c = let l = c .before .before .loop in omega arith
+
+reading-at-requires : tie.Need-reading-at-requires Inv-loop μ-loop
+reading-at-requires c κs = let l = c .before .before .before .loop in simp (length-take, length-drop) (omega (arith, c .before .shared-slice-known2 .given (8816 + l .i)))
+
+sub-make-row : tie.Need-sub-make-row Inv-loop μ-loop
+sub-make-row c = search needs
+
+part-make-row-start : tie.Need-part-make-row-start Inv-loop μ-loop
+part-make-row-start c = search needs
+
+part-make-row-end : tie.Need-part-make-row-end Inv-loop μ-loop
+part-make-row-end c = let l = c .before .before .before .before .loop in omega arith
+
+sub-make-row-2 : tie.Need-sub-make-row-2 Inv-loop μ-loop
+sub-make-row-2 c = search needs
+
+part-make-row-start-2 : tie.Need-part-make-row-start-2 Inv-loop μ-loop
+part-make-row-start-2 c = search needs
+
+part-make-row-end-2 : tie.Need-part-make-row-end-2 Inv-loop μ-loop
+part-make-row-end-2 c = let l = c .before .before .before .before .before .loop in omega arith
+
+sub-make-row-3 : tie.Need-sub-make-row-3 Inv-loop μ-loop
+sub-make-row-3 c = search needs
+
+part-make-row-start-3 : tie.Need-part-make-row-start-3 Inv-loop μ-loop
+part-make-row-start-3 c = search needs
+
+part-make-row-end-3 : tie.Need-part-make-row-end-3 Inv-loop μ-loop
+part-make-row-end-3 c = let l = c .before .before .before .before .before .before .loop in omega arith
+
+make-row-requires : tie.Need-make-row-requires Inv-loop μ-loop
+make-row-requires c κs = let l = c .before .before .before .before .before .before .before .loop in row-asked _ _ _ _ _ (l .inv .1 .0)
+
+sub-row-agrees : tie.Need-sub-row-agrees Inv-loop μ-loop
+sub-row-agrees c = search needs
+
+part-row-agrees-start : tie.Need-part-row-agrees-start Inv-loop μ-loop
+part-row-agrees-start c = search needs
+
+part-row-agrees-end : tie.Need-part-row-agrees-end Inv-loop μ-loop
+part-row-agrees-end c = let l = c .before .before .before .before .before .before .before .before .loop in omega arith
+
+slice-aggregate-row-agrees : tie.Need-slice-aggregate-row-agrees Inv-loop μ-loop
+slice-aggregate-row-agrees c = search needs
+
+row-agrees-requires : tie.Need-row-agrees-requires Inv-loop μ-loop
+row-agrees-requires c κs =
+    let l = c .before .before .before .before .before .before .before .before .before .before .loop in
+    let slot = c .before .before .before .before .before .before .before .before .shared-slice-known2 .given (8816 + l .i) in
+    (simp (length-take, length-drop) (omega arith), (c .before .before .make-row .ensures .long, omega arith))
+
+-- the answer on the slot at this place of the order
+answered : (c : tie.After-row-agrees Inv-loop μ-loop) →
+    let l = c .before .before .before .before .before .before .before .before .before .before .before .loop in
+    let room = c .before .before .before .before .before .before .before .before .before .before .before .before .before .before .before .before .before .args .room .now in
+    (c .row-agrees .result ≡ true) ↔ RowAgrees room (getD room (8816 + l .i) 0)
+answered c =
+    let read = c .before .before .before .before .before .before .before in
+    row-known _ _ _ _ _ (read .before .before .before .before .loop .inv .1 .0) _ _ _ _ (read .reading-at .ensures) (c .before .before .before .make-row .ensures) (c .row-agrees .ensures)
+
+returns : tie.Need-returns Inv-loop μ-loop
+returns c =
+    let l = c .before .before .before .before .before .before .before .before .before .before .before .before .loop in
+    no λ all.
+    let own = rows-known _ (l .inv .1 .0 .bounded) .0 all (l .i) (omega arith) in
+    false≢true (sym (not-true _ (c .if1 .taken)) ∙ answered (c .before) .1 own)
+
+add-i : tie.Need-add-i Inv-loop μ-loop
+add-i c = let l = c .before .before .before .before .before .before .before .before .before .before .before .before .loop in omega arith
+
+loop-less : tie.Need-loop-less Inv-loop μ-loop
+loop-less c = let l = c .before .before .before .before .before .before .before .before .before .before .before .before .loop in omega arith
+
+loop-again : tie.Need-loop-again Inv-loop μ-loop
+loop-again c =
+    let l = c .before .before .before .before .before .before .before .before .before .before .before .before .loop in
+    (omega arith, (l .inv .1 .0, below-more _ _ (l .inv .1 .1) (answered (c .before) .0 (not-false _ (c .if1 .left)))))
+
+returns-2 : tie.Need-returns-2 Inv-loop μ-loop
+returns-2 c =
+    let l = c .before .loop in
+    yes (rows-known _ (l .inv .1 .0 .bounded) .1 λ k h. l .inv .1 .1 k (omega arith))
+
+pub rows-agree-spec : {M : Type 1} → statement M
+rows-agree-spec =
+    tie.close
+    (tie.spec
+    Inv-loop
+    μ-loop
+    two-at-requires
+    two-at-requires-2
+    add-end
+    two-at-requires-3
+    two-at-requires-4
+    loop-holds
+    add-s
+    shared-slice-read-s
+    cast-s
+    sub-reading-at
+    part-reading-at-start
+    part-reading-at-end
+    reading-at-requires
+    sub-make-row
+    part-make-row-start
+    part-make-row-end
+    sub-make-row-2
+    part-make-row-start-2
+    part-make-row-end-2
+    sub-make-row-3
+    part-make-row-start-3
+    part-make-row-end-3
+    make-row-requires
+    sub-row-agrees
+    part-row-agrees-start
+    part-row-agrees-end
+    slice-aggregate-row-agrees
+    row-agrees-requires
+    returns
+    add-i
+    loop-less
+    loop-again
+    returns-2)

@@ -1,0 +1,6 @@
+pub mod Front
+pub mod Fulls
+pub mod LineLaws
+pub mod Rules
+pub mod Steady
+pub mod Walk
