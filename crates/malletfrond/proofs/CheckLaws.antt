@@ -7,18 +7,23 @@ use mathlib.Core.Logic.{_↔_}
 use mathlib.Core.List.{List, [], map}
 use native.Mathlib.Nat.{zero-add}
 use native.Mathlib.Omega.{arith}
-use lib.Dec.{eqb}
-use lib.ListN.{getD}
+use lib.Dec.{eqb, lit≤}
+use lib.ListN.{take, getD}
+use Rattle.numbers.specs.BigEndian.{uint}
 use Rattle.book.specs.Rules.{conditionCount}
 use Rattle.book.specs.Stands.{conditionsOf}
 use Rattle.book.proofs.Limits.{read-kept}
+use Rattle.reading.specs.Reading.{isLess, readingAt}
 use Rattle.matching.specs.Complaints.{levels}
+use Rattle.matching.specs.Order.{Less, Sorted}
+use Rattle.room.specs.Parts.{part}
 use Rattle.room.specs.Layout.{headNumber, parts, conditionPlacesPart, orderPart, slotsPart, rowsPart, nodesPart, lastsPart}
 use Rattle.room.specs.Broken.{broken}
 use Rattle.room.specs.Held.{Held, Once, Arranged, held, slotsOf}
 use Rattle.room.proofs.BrokenLaws.{agreed, Whole, not-broken-whole}
 use Rattle.rete.specs.Row.{bookFlags}
 use Rattle.rete.specs.Rules.{rulesBuilt, endsBuilt, completesBuilt}
+use Rattle.step.proofs.Lending.{number-read}
 use Rattle.checking.specs.Checked.{bookIn, countsIn, readIn, passIn, Indexed, Rises, RowsAgree, Rebuilt}
 use Rattle.malletfrond.specs.Sound.{Sound, heldOf}
 use Rattle.malletfrond.specs.Promise.{Checks}
@@ -133,11 +138,20 @@ module _ (room : List ℕ) where
 
   -- ---- the answer
 
-  pub checks-no : (Sound room → ⊥) → Checks room false
+  checks-no : (Sound room → ⊥) → Checks room false
   checks-no never = record { exact = (λ e. absurd (false≢true e), λ s. absurd (never s)) }
 
   pub checks-broken : broken room ≡ true → Checks room false
   checks-broken h = checks-no (λ s. false≢true (sym (s .whole) ∙ h))
+
+  -- what a sound room has, asked and answered by no
+  pub checks-lacking : {P : Type 0} {r : Bool} → r ≡ false → (r ≡ true) ↔ P → (Sound room → P) → Checks room false
+  checks-lacking is asked has = checks-no (λ s. false≢true (sym is ∙ asked .1 (has s)))
+
+  -- the readings asked after by their number, as it is read
+  pub rises-read : {n : ℕ} {r : Bool} → n ≡ uint 2 room 4 → (r ≡ true) ↔ Sorted (Less isLess) (map (readingAt (part room 9072 3072)) (take n (part room 8816 256)))
+      → (r ≡ true) ↔ Rises room
+  rises-read read asked = rw (number-read room 2 (lit≤ tt) read) at asked
 
   -- the tokens asked last: their answer is the check's
   pub checks-yes : broken room ≡ false → Indexed room → Once (orderPart (parts room)) → Rises room → RowsAgree room → (r : Bool) → (r ≡ true) ↔ Rebuilt room → Checks room r

@@ -2,12 +2,13 @@
 -- that it allows are the same. Assumes nothing.
 use Prim.Native.Nat.{ℕ, _+_, _-_, _*_, _≤_, _<_}
 use mathlib.Core.Path.{_≡_, refl, sym, ap, ap₂, _∙_}
-use mathlib.Core.Bool.{true, false, false≢true}
+use mathlib.Core.Bool.{Bool, true, false, false≢true}
 use mathlib.Core.Logic.{⊎-elim}
 use mathlib.Core.List.{List, [], _∷_, List·Memᴰ, List·Memᴰ·head, List·Memᴰ·tail, Memᴰ·cast}
 use native.Mathlib.Omega.{arith}
 use borrow.Author.Tests.{lt-ltb, le-ltb}
-use lib.ListN.{length, take, drop, length-append}
+use lib.Dec.{lit≤}
+use lib.ListN.{length, take, drop, length-append, length-take}
 use Rattle.numbers.specs.BigEndian.{uint}
 use Rattle.numbers.specs.Spliced.{spliced}
 use Rattle.numbers.proofs.Spliced.{drop-spliced, length-spliced}
@@ -16,6 +17,10 @@ use Rattle.matching.specs.Complaints.{Matched}
 use Rattle.room.specs.Broken.{broken}
 use Rattle.room.specs.Held.{Held, held, completeOf}
 use Rattle.room.specs.Layout.{parts, rulePlacesPart}
+use Rattle.room.specs.Parts.{part}
+use Rattle.room.proofs.BrokenLaws.{Whole, not-broken-whole}
+use Rattle.room.proofs.Large.{large-part}
+use Rattle.step.proofs.Lending.{in-room}
 use Rattle.rete.proofs.Grown.{le-or-lt}
 use Rattle.lines.specs.Found.{ComplaintAt}
 use Rattle.lines.specs.Line.{ending, lineText, lengthIn, textIn}
@@ -82,6 +87,29 @@ module _ (room : List ℕ) (k : ℕ) (buffer : List ℕ) where
   lines-beyond {rule} whole c h = lines-refused 16 whole (List·Memᴰ·head refl)
       (λ s. absurd (let t = found-text room s rule (uint 2 (rulePlacesPart (parts room)) (rule * 2)) (c .rule-in refl) refl in omega arith))
 
+-- ---- what is lent of a room that is not broken, to read the record of the complaint's rule
+
+-- a complaint by what was answered on whether there is one
+pub complaint-as : {room : List ℕ} {k : ℕ} {found answer : Bool} {rule count : ℕ} {readings : List Reading} → found ≡ answer → ComplaintAt room k found rule count readings
+    → ComplaintAt room k answer rule count readings
+complaint-as is c = rw is at c
+
+-- there are 32 rules at most, and a place for each
+module _ {room : List ℕ} {k : ℕ} {rule count : ℕ} {readings : List Reading} (whole : broken room ≡ false) (c : ComplaintAt room k true rule count readings) where
+  pub rule-low : rule < 32
+  rule-low = let w : Whole room = not-broken-whole room whole in omega (arith, c .rule-in refl)
+
+  pub rule-placed : rule * 2 + 2 ≤ length (part room 8592 64)
+  rule-placed = omega (arith, rule-low, large-part room 8592 64 (lit≤ tt) (in-room room whole (lit≤ tt)))
+
+-- a record that ends in the book's part ends in the room, and so does its number
+pub record-lent : (room : List ℕ) (place : ℕ) → broken room ≡ false → 16 + place + 27 ≤ 8208 → (16 + place + 1 + 2 ≤ length room) × (16 + place + 27 ≤ length room)
+record-lent room place whole h = let l : 8208 ≤ length room = in-room room whole (lit≤ tt) in (omega arith, omega arith)
+
+-- the wording as it is lent has 24 bytes at most
+pub wording-short : (room : List ℕ) (place : ℕ) → length (part room (16 + place + 3) (16 + place + 27 - (16 + place + 3))) ≤ 24
+wording-short room place = simp length-take (omega arith)
+
 -- ---- a line put in a buffer
 
 -- it ends in a newline, so it is never empty
@@ -108,6 +136,10 @@ module _ (list : List Matched) (k : ℕ) (buffer text : List ℕ) (is : Says lis
       let under = le-ltb (length buffer) (length text) fits in
       (simp (there, is .1, under), simp (there, is .1, under))
 
+-- the answer by how long the line is that was put, 0 where there was no place for it
+abbrev pub Put : List ℕ → ℕ → List ℕ → ℕ → List ℕ → Type 0
+Put room k buffer n buffer' = (n ≡ 0 → Lines room k buffer (l.Refused 15) buffer') × (¬ (n ≡ 0) → Lines room k buffer (l.Written n) buffer')
+
 -- complaint k as it is found, its rule's number and wording as they stand in the stored book, in a buffer that has place for the line or not
 module _ {room : List ℕ} {k : ℕ} {rule count : ℕ} {readings : List Reading} (whole : broken room ≡ false) (h : k < completeOf room) (c : ComplaintAt room k true rule count readings)
     (place number : ℕ) (wording text : List ℕ) (placed : place ≡ uint 2 (rulePlacesPart (parts room)) (rule * 2)) (numbered : number ≡ uint 2 room (16 + place + 1))
@@ -127,7 +159,7 @@ module _ {room : List ℕ} {k : ℕ} {rule count : ℕ} {readings : List Reading
       )
 
   pub lines-put : (buffer : List ℕ) (n : ℕ) (buffer' : List ℕ) → length text ≤ 230 → n ≡ lengthIn buffer text → buffer' ≡ textIn buffer text
-      → (n ≡ 0 → Lines room k buffer (l.Refused 15) buffer') × (¬ (n ≡ 0) → Lines room k buffer (l.Written n) buffer')
+      → Put room k buffer n buffer'
   unfolding lengthIn textIn
   lines-put buffer n buffer' most count-is put = ⊎-elim
       (λ (fits : length text ≤ length buffer).
