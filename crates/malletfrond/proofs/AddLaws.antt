@@ -23,16 +23,16 @@ use Rattle.rete.specs.Row.{standsAt}
 use Rattle.rete.proofs.Grown.{le-or-lt}
 use Rattle.step.specs.Worked.{AddedAt}
 use Rattle.malletfrond.specs.declared.StepAnswer.the-variants as a
-use Rattle.malletfrond.specs.Sound.{Sound, stateOf}
+use Rattle.sound.specs.Sound.{Sound, stateOf}
 use Rattle.malletfrond.specs.Answers.{refusals}
 use Rattle.malletfrond.specs.Promise.{Steps}
-use Rattle.malletfrond.proofs.Adding.{adding-over, adding-next}
-use Rattle.malletfrond.proofs.AnswerLaws.{appeared}
-use Rattle.malletfrond.proofs.Ranks.{rankIn, stands-present}
-use Rattle.malletfrond.proofs.ReadBack.{Fits}
-use Rattle.malletfrond.proofs.Resumed.{next-tokens, next-complete}
-use Rattle.malletfrond.proofs.SoundLaws.{length-held-readings, sound-complete}
-use Rattle.malletfrond.proofs.SoundRoom.{sound-kept}
+use Rattle.sound.proofs.Adding.{adding-over, adding-next}
+use Rattle.sound.proofs.AnswerLaws.{appeared}
+use Rattle.sound.proofs.Ranks.{rankIn, stands-present}
+use Rattle.sound.proofs.ReadBack.{Fits}
+use Rattle.sound.proofs.Resumed.{next-tokens, next-complete}
+use Rattle.sound.proofs.SoundLaws.{length-held-readings, sound-complete}
+use Rattle.sound.proofs.SoundRoom.{sound-kept}
 use Rattle.malletfrond.proofs.StepLaws.{steps-refused, steps-accepted}
 
 -- ---- the step on values, case by case

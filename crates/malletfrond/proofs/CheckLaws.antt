@@ -25,17 +25,17 @@ use Rattle.rete.specs.Row.{bookFlags}
 use Rattle.rete.specs.Rules.{rulesBuilt, endsBuilt, completesBuilt}
 use Rattle.step.proofs.Lending.{number-read}
 use Rattle.checking.specs.Checked.{bookIn, countsIn, readIn, passIn, Indexed, Rises, RowsAgree, Rebuilt}
-use Rattle.malletfrond.specs.Sound.{Sound, heldOf}
+use Rattle.sound.specs.Sound.{Sound, heldOf}
 use Rattle.malletfrond.specs.Promise.{Checks}
-use Rattle.malletfrond.proofs.Agree.{Bits, bits-ext, bits-same, bits-agree}
-use Rattle.malletfrond.proofs.Entries.{Entries}
-use Rattle.malletfrond.proofs.RoomBuilt.{room-memories, room-tokens}
-use Rattle.malletfrond.proofs.SoundLaws.{held-ext, held-sound}
-use Rattle.malletfrond.proofs.SoundRoom.{bitIn, testsIn, placed-tests, nodes-long, lasts-long, sound-bits, sound-counts, sound-tokens, sound-ends, sound-completes}
-use Rattle.malletfrond.proofs.Stretches.{used-stored}
-use Rattle.malletfrond.proofs.Tables.{places-counted}
-use Rattle.malletfrond.proofs.TokensBuilt.{Agrees, rulesBuilt-used, endsBuilt-of, completesBuilt-of}
-use Rattle.malletfrond.proofs.Views.{book-bits}
+use Rattle.sound.proofs.Agree.{Bits, bits-ext, bits-same, bits-agree}
+use Rattle.sound.proofs.Entries.{Entries}
+use Rattle.sound.proofs.RoomBuilt.{room-memories, room-tokens}
+use Rattle.sound.proofs.SoundLaws.{held-ext, held-sound}
+use Rattle.sound.proofs.SoundRoom.{bitIn, testsIn, placed-tests, nodes-long, lasts-long, sound-bits, sound-counts, sound-tokens, sound-ends, sound-completes}
+use Rattle.sound.proofs.Stretches.{used-stored}
+use Rattle.sound.proofs.Tables.{places-counted}
+use Rattle.sound.proofs.TokensBuilt.{Agrees, rulesBuilt-used, endsBuilt-of, completesBuilt-of}
+use Rattle.sound.proofs.Views.{book-bits}
 
 module _ (room : List ℕ) where
   -- ---- a room whose tables are those of its book

@@ -25,7 +25,7 @@ use Rattle.malletfrond.specs.declared.StepAnswer.{StepAnswer}
 use Rattle.malletfrond.specs.declared.StepAnswer.the-variants as a
 use Rattle.malletfrond.specs.declared.LineAnswer.{LineAnswer}
 use Rattle.malletfrond.specs.declared.LineAnswer.the-variants as l
-use Rattle.malletfrond.specs.Sound.{Sound, heldOf, stateOf}
+use Rattle.sound.specs.Sound.{Sound, heldOf, stateOf}
 use Rattle.malletfrond.specs.Answers.{stepAnswer, complaintLine, complaintAt}
 use Rattle.malletfrond.specs.Promise.{Steps, Lines}
 use Rattle.malletfrond.specs.Runs.{Call, step, counts, line, check, Reply, Allowed, Event, Run, ended, then, replyIn, stateAfter, isAccepted, after, replayed}
@@ -33,8 +33,8 @@ use Rattle.malletfrond.specs.Demand.{lineRefused, isRefused, bufferOf, b
 use Rattle.malletfrond.proofs.RunLaws.{opens-state, allowed-reply, callsOf, statesAfter, eventsIn, run-sound, run-state, run-replies, run-book}
 use Rattle.malletfrond.proofs.RunLaws.{states-keep, states-settled, Present, replayed-present}
 use Rattle.malletfrond.proofs.LineLengths.{line-written, line-none, length-line}
-use Rattle.malletfrond.proofs.SoundLaws.{sound-same}
-use Rattle.malletfrond.proofs.SoundRoom.{sound-kept}
+use Rattle.sound.proofs.SoundLaws.{sound-same}
+use Rattle.sound.proofs.SoundRoom.{sound-kept}
 use Rattle.malletfrond.proofs.StepLaws.{accepted-not-refused}
 
 -- ---- what no call changes

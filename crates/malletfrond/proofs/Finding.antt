@@ -25,11 +25,11 @@ use Rattle.room.proofs.TwosRead.{length-twos, getD-twos}
 use Rattle.rete.proofs.Decode.{atNode}
 use Rattle.lines.specs.Found.{tokensOf, fulls, ComplaintAt}
 use Rattle.step.specs.Worked.{bookIn, countsIn}
-use Rattle.malletfrond.specs.Sound.{Sound, heldOf}
+use Rattle.sound.specs.Sound.{Sound, heldOf}
 use Rattle.malletfrond.specs.Answers.{complaintAt}
-use Rattle.malletfrond.proofs.Entries.{Entries, entries-right, getD-map}
-use Rattle.malletfrond.proofs.SoundRoom.{readIn, passIn, sound-kept, sound-agrees, sound-counts, sound-stretches, sound-completes}
-use Rattle.malletfrond.proofs.TokensBuilt.{Some, Agrees, full-built}
+use Rattle.sound.proofs.Entries.{Entries, entries-right, getD-map}
+use Rattle.sound.proofs.SoundRoom.{readIn, passIn, sound-kept, sound-agrees, sound-counts, sound-stretches, sound-completes}
+use Rattle.sound.proofs.TokensBuilt.{Some, Agrees, full-built}
 
 -- ---- the complete matches found are the complaints
 

@@ -30,7 +30,7 @@ use Rattle.malletfrond.specs.declared.CountsAnswer.{CountsAnswer}
 use Rattle.malletfrond.specs.declared.CountsAnswer.the-variants as c
 use Rattle.malletfrond.specs.declared.LineAnswer.{LineAnswer}
 use Rattle.malletfrond.specs.declared.LineAnswer.the-variants as l
-use Rattle.malletfrond.specs.Sound.{Sound, stateOf}
+use Rattle.sound.specs.Sound.{Sound, stateOf}
 use Rattle.malletfrond.specs.Answers.{stepAnswer, complaintLine}
 use Rattle.malletfrond.specs.Promise.{Opens}
 use Rattle.malletfrond.specs.Runs.{step, counts, line, check, Event, Run, replyIn, stateAfter, isAccepted}

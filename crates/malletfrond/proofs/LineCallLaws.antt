@@ -26,11 +26,11 @@ use Rattle.lines.specs.Found.{ComplaintAt}
 use Rattle.lines.specs.Line.{ending, lineText, lengthIn, textIn}
 use Rattle.malletfrond.specs.declared.LineAnswer.{LineAnswer}
 use Rattle.malletfrond.specs.declared.LineAnswer.the-variants as l
-use Rattle.malletfrond.specs.Sound.{Sound}
+use Rattle.sound.specs.Sound.{Sound}
 use Rattle.malletfrond.specs.Answers.{complaintLine, complaintAt, lineAnswer, lineBuffer}
 use Rattle.malletfrond.specs.Promise.{Lines}
 use Rattle.malletfrond.proofs.Finding.{complaintsIn, found-complaint, found-text}
-use Rattle.malletfrond.proofs.SoundLaws.{sound-rules, sound-complete}
+use Rattle.sound.proofs.SoundLaws.{sound-rules, sound-complete}
 
 -- a line written is not one refused
 written-not-refused : (n number : ℕ) → l.Written n ≡ l.Refused number → ⊥

@@ -24,8 +24,8 @@ use Rattle.step.proofs.Lending.{in-room, number-read}
 use Rattle.malletfrond.specs.declared.StepAnswer.the-variants as a
 use Rattle.malletfrond.specs.Promise.{Steps}
 use Rattle.malletfrond.proofs.AddLaws.{stands, adds-full, adds-over, adds-accepted}
-use Rattle.malletfrond.proofs.Ranks.{rankIn}
-use Rattle.malletfrond.proofs.ReadBack.{Fits}
+use Rattle.sound.proofs.Ranks.{rankIn}
+use Rattle.sound.proofs.ReadBack.{Fits}
 use Rattle.malletfrond.proofs.RemoveLaws.{removes-accepted}
 
 module _ (room : List ℕ) (whole : broken room ≡ false) {n : ℕ} (read : n ≡ uint 2 room 4) where

@@ -32,12 +32,13 @@ use Rattle.room.proofs.BrokenLaws.{Whole, whole-not-broken}
 use Rattle.room.proofs.Written.{opened-number, parts-written}
 use Rattle.room.proofs.Order.{length-below, once-below}
 use Rattle.malletfrond.specs.declared.OpenAnswer.the-variants as o
-use Rattle.malletfrond.specs.Sound.{Sound, heldOf, tokensHeld}
+use Rattle.sound.specs.Sound.{Sound, heldOf, tokensHeld}
 use Rattle.malletfrond.specs.Answers.{limitsFit, openedBy, openAnswer}
 use Rattle.malletfrond.specs.Promise.{Opens}
-use Rattle.malletfrond.proofs.SoundLaws.{held-ext, held-sound, opened-not-refused}
-use Rattle.malletfrond.proofs.Tables.{rulePlaces-most, conditionPlaces-most, take-padded, length-padded, getD-padded, twos-padded, counts-kept, sum-counts, uint-zeros, twos-zeros}
-use Rattle.malletfrond.proofs.NoReadings.{endsOf-none, completesOf-none, memories-none, map-none, tokensHeld-none}
+use Rattle.malletfrond.proofs.CallLaws.{opened-not-refused}
+use Rattle.sound.proofs.SoundLaws.{held-ext, held-sound}
+use Rattle.sound.proofs.Tables.{rulePlaces-most, conditionPlaces-most, take-padded, length-padded, getD-padded, twos-padded, counts-kept, sum-counts, uint-zeros, twos-zeros}
+use Rattle.sound.proofs.NoReadings.{endsOf-none, completesOf-none, memories-none, map-none, tokensHeld-none}
 
 -- ---- the limits
 

@@ -18,16 +18,16 @@ use Rattle.room.specs.Layout.{headNumber}
 use Rattle.room.specs.Held.{held, completeOf}
 use Rattle.step.specs.Worked.{RemovedAt}
 use Rattle.malletfrond.specs.declared.StepAnswer.the-variants as a
-use Rattle.malletfrond.specs.Sound.{stateOf}
+use Rattle.sound.specs.Sound.{stateOf}
 use Rattle.malletfrond.specs.Answers.{refusals}
 use Rattle.malletfrond.specs.Promise.{Steps}
 use Rattle.malletfrond.proofs.AddLaws.{stands, is-present, present-many}
-use Rattle.malletfrond.proofs.AnswerLaws.{vanished}
-use Rattle.malletfrond.proofs.Ranks.{rankIn, rank-split}
-use Rattle.malletfrond.proofs.Removing.{removing-next}
-use Rattle.malletfrond.proofs.Resumed.{next-tokens, next-complete}
-use Rattle.malletfrond.proofs.SoundLaws.{sound-complete}
-use Rattle.malletfrond.proofs.SoundRoom.{sound-kept}
+use Rattle.sound.proofs.AnswerLaws.{vanished}
+use Rattle.sound.proofs.Ranks.{rankIn, rank-split}
+use Rattle.sound.proofs.Removing.{removing-next}
+use Rattle.sound.proofs.Resumed.{next-tokens, next-complete}
+use Rattle.sound.proofs.SoundLaws.{sound-complete}
+use Rattle.sound.proofs.SoundRoom.{sound-kept}
 use Rattle.malletfrond.proofs.StepLaws.{steps-refused, steps-accepted}
 
 -- ---- the step on values, case by case

@@ -17,11 +17,11 @@ use Rattle.matching.proofs.Laws.Steps.{stepped-keeps, stepped-refused, stepped-
 use Rattle.room.specs.Held.{Held, held}
 use Rattle.malletfrond.specs.declared.OpenAnswer.{OpenAnswer}
 use Rattle.malletfrond.specs.declared.OpenAnswer.the-variants as o
-use Rattle.malletfrond.specs.Sound.{Sound, heldOf, stateOf}
+use Rattle.sound.specs.Sound.{Sound, heldOf, stateOf}
 use Rattle.malletfrond.specs.Answers.{stepAnswer}
 use Rattle.malletfrond.specs.Promise.{Opens}
 use Rattle.malletfrond.specs.Runs.{Call, step, counts, line, check, Reply, Allowed, Event, Run, ended, then, replyIn, stateAfter, isAccepted, after, replayed}
-use Rattle.malletfrond.proofs.SoundLaws.{sound-rules}
+use Rattle.sound.proofs.SoundLaws.{sound-rules}
 
 -- ---- the state of a sound room
 

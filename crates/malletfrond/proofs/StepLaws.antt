@@ -16,11 +16,11 @@ use Rattle.room.specs.Written.{Aside}
 use Rattle.room.specs.Written as written
 use Rattle.malletfrond.specs.declared.StepAnswer.{StepAnswer}
 use Rattle.malletfrond.specs.declared.StepAnswer.the-variants as a
-use Rattle.malletfrond.specs.Sound.{Sound, heldOf, stateOf}
+use Rattle.sound.specs.Sound.{Sound, heldOf, stateOf}
 use Rattle.malletfrond.specs.Answers.{stepAnswer, refusals}
 use Rattle.malletfrond.specs.Promise.{Steps}
-use Rattle.malletfrond.proofs.Next.{Next}
-use Rattle.malletfrond.proofs.Resumed.{next-holds, next-sound}
+use Rattle.sound.proofs.Next.{Next}
+use Rattle.sound.proofs.Resumed.{next-holds, next-sound}
 
 -- ---- a refusal
 

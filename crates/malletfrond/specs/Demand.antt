@@ -22,7 +22,7 @@ use Rattle.malletfrond.specs.declared.CountsAnswer.{CountsAnswer}
 use Rattle.malletfrond.specs.declared.CountsAnswer.the-variants as c
 use Rattle.malletfrond.specs.declared.LineAnswer.{LineAnswer}
 use Rattle.malletfrond.specs.declared.LineAnswer.the-variants as l
-use Rattle.malletfrond.specs.Sound.{Sound, heldOf}
+use Rattle.sound.specs.Sound.{Sound, heldOf}
 use Rattle.malletfrond.specs.Answers.{complaintLine, complaintAt}
 use Rattle.malletfrond.specs.Promise.{Opens}
 use Rattle.malletfrond.specs.Runs.{Call, step, counts, line, check, Reply, Allowed, Event, Run, replyIn, isAccepted, replayed}

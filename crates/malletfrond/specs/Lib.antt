@@ -1,4 +1,3 @@
-pub mod Sound
 pub mod Answers
 pub mod Promise
 pub mod Runs

@@ -23,7 +23,7 @@ use Rattle.malletfrond.specs.declared.StepAnswer.{StepAnswer}
 use Rattle.malletfrond.specs.declared.StepAnswer.the-variants as a
 use Rattle.malletfrond.specs.declared.LineAnswer.{LineAnswer}
 use Rattle.malletfrond.specs.declared.LineAnswer.the-variants as l
-use Rattle.malletfrond.specs.Sound.{Sound, heldOf, stateOf}
+use Rattle.sound.specs.Sound.{Sound, heldOf, stateOf}
 use Rattle.malletfrond.specs.Answers.{openAnswer, countsAnswer, stepAnswer, refusals, lineAnswer, lineBuffer}
 
 -- opening: 8, 9, the book's refusals; a refusal changes no byte; an accepted opening leaves a sound room that holds the book, the limits and nothing else

@@ -10,7 +10,7 @@ use Rattle.room.specs.Broken.{broken}
 use Rattle.step.proofs.Lending.{in-room}
 use Rattle.malletfrond.proofs.AddLaws.{adds-present}
 use Rattle.malletfrond.proofs.LookedUp.{LookedUp, looked-up, parts-lent, adds-no-slot, slot-free, adds-too-many, adds-new}
-use Rattle.malletfrond.proofs.ReadBack.{Fits}
+use Rattle.sound.proofs.ReadBack.{Fits}
 use Rattle.malletfrond.proofs.StepLaws.{steps-broken}
 use Rattle.malletfrond.proofs.add.Statement.{statement}
 use Rattle.malletfrond.proofs.add.Tie as tie

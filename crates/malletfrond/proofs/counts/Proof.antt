@@ -6,7 +6,7 @@ use native.Mathlib.Omega.{arith}
 use borrow.Author.Needs.{needs}
 use Rattle.room.specs.Broken.{broken}
 use Rattle.room.proofs.BrokenLaws.{not-broken-whole}
-use Rattle.malletfrond.proofs.SoundLaws.{counts-broken, counts-whole}
+use Rattle.malletfrond.proofs.CallLaws.{counts-broken, counts-whole}
 use Rattle.malletfrond.proofs.counts.Statement.{statement}
 use Rattle.malletfrond.proofs.counts.Tie as tie
 

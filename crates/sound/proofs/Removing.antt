@@ -30,13 +30,13 @@ use Rattle.rete.specs.Row.{movedOut}
 use Rattle.rete.specs.Sift.{others}
 use Rattle.rete.proofs.OrderLaws.{take-movedOut, once-movedOut}
 use Rattle.step.specs.Worked.{slotIn, countsIn, RemovedAt}
-use Rattle.malletfrond.specs.Sound.{Sound}
-use Rattle.malletfrond.proofs.Agree.{Bits, bits-agree, bits-either}
-use Rattle.malletfrond.proofs.Next.{Next, slotsNext}
-use Rattle.malletfrond.proofs.Once.{times-mem, once-take}
-use Rattle.malletfrond.proofs.Ranks.{order-long}
-use Rattle.malletfrond.proofs.SoundRoom.{readIn, bitIn, testsIn, passIn, countsOf, sound-bits, sound-tests, sound-counts, sound-stretches, sound-count}
-use Rattle.malletfrond.proofs.TokensBuilt.{length-rulesBuilt}
+use Rattle.sound.specs.Sound.{Sound}
+use Rattle.sound.proofs.Agree.{Bits, bits-agree, bits-either}
+use Rattle.sound.proofs.Next.{Next, slotsNext}
+use Rattle.sound.proofs.Once.{times-mem, once-take}
+use Rattle.sound.proofs.Ranks.{order-long}
+use Rattle.sound.proofs.SoundRoom.{readIn, bitIn, testsIn, passIn, countsOf, sound-bits, sound-tests, sound-counts, sound-stretches, sound-count}
+use Rattle.sound.proofs.TokensBuilt.{length-rulesBuilt}
 
 -- ---- a list that names no slot twice
 

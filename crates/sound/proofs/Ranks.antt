@@ -25,8 +25,8 @@ use Rattle.room.specs.Held.{held, slotsOf}
 use Rattle.room.proofs.BrokenLaws.{agreed, Whole, not-broken-whole}
 use Rattle.room.proofs.Put.{length-part}
 use Rattle.rete.specs.Row.{leading, lesser, standsAt}
-use Rattle.malletfrond.specs.Sound.{Sound, stateOf}
-use Rattle.malletfrond.proofs.SoundRoom.{readIn}
+use Rattle.sound.specs.Sound.{Sound, stateOf}
+use Rattle.sound.proofs.SoundRoom.{readIn}
 
 pub leading-within : (p : ℕ → Bool) (l : List ℕ) → leading p l ≤ length l
 unfolding leading

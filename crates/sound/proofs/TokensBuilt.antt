@@ -26,9 +26,9 @@ use Rattle.rete.specs.Built.{built, stem, branch, nodes}
 use Rattle.rete.specs.Rules.{timesOf, rulesBuilt, endsBuilt, completesBuilt, completeBuilt}
 use Rattle.rete.proofs.Decode.{decoded, Reads, reads-built, atNode, decoded-forest}
 use Rattle.checking.proofs.Extent.{built-ext}
-use Rattle.malletfrond.specs.Sound.{ruleHeld, tokensHeld, endsOf, completesOf}
-use Rattle.malletfrond.proofs.Levels.{Levelled, levelled-here, levelled-past}
-use Rattle.malletfrond.proofs.Stored.{Used, asToken, length-tokensFrom, nodes-tokensFrom}
+use Rattle.sound.specs.Sound.{ruleHeld, tokensHeld, endsOf, completesOf}
+use Rattle.sound.proofs.Levels.{Levelled, levelled-here, levelled-past}
+use Rattle.sound.proofs.Stored.{Used, asToken, length-tokensFrom, nodes-tokensFrom}
 
 -- every rule has a condition
 abbrev pub Some : List Rule → Type 0

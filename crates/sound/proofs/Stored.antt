@@ -7,7 +7,7 @@ use lib.ListN.{length, take}
 use Rattle.reading.specs.declared.Reading.{Reading}
 use Rattle.room.specs.Held.{Stored, Token, tokensFrom}
 use Rattle.rete.specs.Built.{token, nodes}
-use Rattle.malletfrond.proofs.Slots.{Distinct}
+use Rattle.sound.proofs.Slots.{Distinct}
 
 -- all the tokens end in slots of os
 abbrev pub Used : List ℕ → List Stored → Type 0

@@ -13,11 +13,11 @@ use Rattle.room.specs.Parts.{below}
 use Rattle.room.specs.Layout.{headNumber, parts, ruleConditionsPart, slotsPart, rowsPart}
 use Rattle.room.specs.Held.{Stored, held, level, sifted, inMemory, storedOf, slotsOf, tokensFrom}
 use Rattle.rete.specs.Rules.{rulesBuilt}
-use Rattle.malletfrond.specs.Sound.{tokensHeld}
-use Rattle.malletfrond.proofs.Agree.{Bits, memories-held}
-use Rattle.malletfrond.proofs.Levels.{levelled-all}
-use Rattle.malletfrond.proofs.Stored.{asToken}
-use Rattle.malletfrond.proofs.TokensBuilt.{Agrees, rulesBuilt-tokens}
+use Rattle.sound.specs.Sound.{tokensHeld}
+use Rattle.sound.proofs.Agree.{Bits, memories-held}
+use Rattle.sound.proofs.Levels.{levelled-all}
+use Rattle.sound.proofs.Stored.{asToken}
+use Rattle.sound.proofs.TokensBuilt.{Agrees, rulesBuilt-tokens}
 
 module _ (room os slots : List ℕ) (rules : List Rule) (slots-in-use : slotsOf room ≡ os) (slots-are : slotsPart (parts room) ≡ slots) where
   pub room-memories : (rows : List ℕ) → rowsPart (parts room) ≡ rows → headNumber room 6 ≡ conditionCount rules → Bits os (readingAt slots) (inMemory rows) 0 rules

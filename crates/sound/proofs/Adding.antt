@@ -33,16 +33,16 @@ use Rattle.rete.specs.Weave.{before, Woven}
 use Rattle.rete.proofs.OrderLaws.{take-movedIn, once-movedIn}
 use Rattle.step.specs.Worked.{bookIn, countsIn, endsIn, slotIn, viewIn, seenIn, AddedAt}
 use Rattle.checking.proofs.Extent.{told-ext}
-use Rattle.malletfrond.specs.Sound.{Sound, stateOf}
-use Rattle.malletfrond.proofs.Agree.{passSlot, Bits, bits-ext}
-use Rattle.malletfrond.proofs.Next.{Next, slotsNext}
-use Rattle.malletfrond.proofs.Once.{once-new}
-use Rattle.malletfrond.proofs.Ranks.{rankIn, order-long, leading-within, rank-low, rank-high, rank-inserted}
-use Rattle.malletfrond.proofs.ReadBack.{Fits, read-back, bit-back}
-use Rattle.malletfrond.proofs.SoundRoom.{readIn, testsIn, countsOf, sound-kept, sound-bits, sound-tests, sound-counts, sound-stretches}
-use Rattle.malletfrond.proofs.Tables.{sum-counts}
-use Rattle.malletfrond.proofs.TokensBuilt.{Agrees, length-rulesBuilt}
-use Rattle.malletfrond.proofs.Views.{seen-read, seen-stretches, seen-bits, seen-agrees}
+use Rattle.sound.specs.Sound.{Sound, stateOf}
+use Rattle.sound.proofs.Agree.{passSlot, Bits, bits-ext}
+use Rattle.sound.proofs.Next.{Next, slotsNext}
+use Rattle.sound.proofs.Once.{once-new}
+use Rattle.sound.proofs.Ranks.{rankIn, order-long, leading-within, rank-low, rank-high, rank-inserted}
+use Rattle.sound.proofs.ReadBack.{Fits, read-back, bit-back}
+use Rattle.sound.proofs.SoundRoom.{readIn, testsIn, countsOf, sound-kept, sound-bits, sound-tests, sound-counts, sound-stretches}
+use Rattle.sound.proofs.Tables.{sum-counts}
+use Rattle.sound.proofs.TokensBuilt.{Agrees, length-rulesBuilt}
+use Rattle.sound.proofs.Views.{seen-read, seen-stretches, seen-bits, seen-agrees}
 
 -- ---- lists
 

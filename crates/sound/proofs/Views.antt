@@ -26,9 +26,9 @@ use Rattle.rete.specs.Row.{flag, flagsFrom, bookFlags, RowOf}
 use Rattle.rete.specs.Rules.{Stretches}
 use Rattle.rete.specs.View.{readOf, bitOf, passOf, seen, read, pass}
 use Rattle.checking.proofs.Extent.{stretches-ext}
-use Rattle.malletfrond.proofs.Agree.{passSlot, Bits, bits-either, bits-ext, bits-agree}
-use Rattle.malletfrond.proofs.Entries.{Entries, entries-left, entries-right}
-use Rattle.malletfrond.proofs.TokensBuilt.{Agrees}
+use Rattle.sound.proofs.Agree.{passSlot, Bits, bits-either, bits-ext, bits-agree}
+use Rattle.sound.proofs.Entries.{Entries, entries-left, entries-right}
+use Rattle.sound.proofs.TokensBuilt.{Agrees}
 
 -- ---- flags: what the row of an added reading is made of
 

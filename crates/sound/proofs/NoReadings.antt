@@ -13,8 +13,8 @@ use Rattle.matching.specs.Lists.{concatMap, keep}
 use Rattle.matching.specs.Match.{tokenCount}
 use Rattle.matching.specs.Complaints.{levels, passOf, memory, memoriesFrom, memories, bookCount, ruleComplaints}
 use Rattle.matching.proofs.Laws.Steps.{bookCount-none}
-use Rattle.malletfrond.specs.Sound.{tokensHeld, endsOf, completesOf}
-use Rattle.malletfrond.proofs.SoundLaws.{length-tokensHeld, complaints-within}
+use Rattle.sound.specs.Sound.{tokensHeld, endsOf, completesOf}
+use Rattle.sound.proofs.SoundLaws.{length-tokensHeld, complaints-within}
 
 -- ---- tokens and complete matches
 

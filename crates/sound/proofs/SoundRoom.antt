@@ -29,14 +29,14 @@ use Rattle.room.proofs.TwosRead.{length-twos, getD-twos}
 use Rattle.rete.specs.Rules.{rulesBuilt, endsBuilt, completesBuilt, Stretches}
 use Rattle.checking.proofs.Planes.{length-stored}
 use Rattle.step.specs.Worked.{bookIn}
-use Rattle.malletfrond.specs.Sound.{Sound, heldOf, tokensHeld}
-use Rattle.malletfrond.proofs.Agree.{memoryAt, passSlot, Bits, memories-bits, bits-agree}
-use Rattle.malletfrond.proofs.Entries.{Entries, entries-map, getD-below}
-use Rattle.malletfrond.proofs.Levels.{levelled-all}
-use Rattle.malletfrond.proofs.Slots.{Distinct, read-injective}
-use Rattle.malletfrond.proofs.Stored.{asToken, asToken-injective, tokens-injective}
-use Rattle.malletfrond.proofs.Stretches.{stored-used, stretches-built}
-use Rattle.malletfrond.proofs.TokensBuilt.{Agrees, rulesBuilt-tokens, rulesBuilt-used, length-rulesBuilt, endsBuilt-of, completesBuilt-of}
+use Rattle.sound.specs.Sound.{Sound, heldOf, tokensHeld}
+use Rattle.sound.proofs.Agree.{memoryAt, passSlot, Bits, memories-bits, bits-agree}
+use Rattle.sound.proofs.Entries.{Entries, entries-map, getD-below}
+use Rattle.sound.proofs.Levels.{levelled-all}
+use Rattle.sound.proofs.Slots.{Distinct, read-injective}
+use Rattle.sound.proofs.Stored.{asToken, asToken-injective, tokens-injective}
+use Rattle.sound.proofs.Stretches.{stored-used, stretches-built}
+use Rattle.sound.proofs.TokensBuilt.{Agrees, rulesBuilt-tokens, rulesBuilt-used, length-rulesBuilt, endsBuilt-of, completesBuilt-of}
 
 module _ (room : List ℕ) where
   -- the reading at a slot, its bit of condition c, and the tests of condition c, as the room says

@@ -18,9 +18,9 @@ use Rattle.matching.proofs.Laws.Alpha.{passesAll-split, getD-memoriesFrom}
 use Rattle.room.specs.Held.{sifted}
 use Rattle.room.specs.Parts.{below}
 use Rattle.rete.proofs.Grown.{le-or-lt}
-use Rattle.malletfrond.proofs.Entries.{Entries, entries-left, entries-right, entries-append, map-entries}
-use Rattle.malletfrond.proofs.Slots.{Distinct, sifted-keep, keep-sifted}
-use Rattle.malletfrond.proofs.TokensBuilt.{Agrees}
+use Rattle.sound.proofs.Entries.{Entries, entries-left, entries-right, entries-append, map-entries}
+use Rattle.sound.proofs.Slots.{Distinct, sifted-keep, keep-sifted}
+use Rattle.sound.proofs.TokensBuilt.{Agrees}
 
 -- ---- how many memories there are
 

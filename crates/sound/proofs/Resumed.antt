@@ -27,15 +27,15 @@ use Rattle.room.proofs.TwosRead.{length-twos, getD-twos}
 use Rattle.room.proofs.Written.{counted-readings, counted-tokens, counted-before, counted-after, parts-written}
 use Rattle.rete.specs.Built.{nodes, lasts}
 use Rattle.rete.specs.Rules.{rulesBuilt}
-use Rattle.malletfrond.specs.Sound.{Sound, heldOf, tokensHeld, endsOf, completesOf}
-use Rattle.malletfrond.proofs.Agree.{passSlot, bits-agree}
-use Rattle.malletfrond.proofs.Next.{Next, slotsNext}
-use Rattle.malletfrond.proofs.RoomBuilt.{room-memories, room-tokens}
-use Rattle.malletfrond.proofs.SoundLaws.{held-ext, held-sound, complaints-within}
-use Rattle.malletfrond.proofs.SoundRoom.{testsIn, nodes-long, lasts-long, countsOf, sound-kept, sound-tests, sound-counts}
-use Rattle.malletfrond.proofs.Stretches.{used-stored}
-use Rattle.malletfrond.proofs.Tables.{AtMost, places-counted, twos-padded}
-use Rattle.malletfrond.proofs.TokensBuilt.{Some, Agrees, rulesBuilt-used, length-rulesBuilt, endsBuilt-of, completesBuilt-of, completeBuilt-of}
+use Rattle.sound.specs.Sound.{Sound, heldOf, tokensHeld, endsOf, completesOf}
+use Rattle.sound.proofs.Agree.{passSlot, bits-agree}
+use Rattle.sound.proofs.Next.{Next, slotsNext}
+use Rattle.sound.proofs.RoomBuilt.{room-memories, room-tokens}
+use Rattle.sound.proofs.SoundLaws.{held-ext, held-sound, complaints-within}
+use Rattle.sound.proofs.SoundRoom.{testsIn, nodes-long, lasts-long, countsOf, sound-kept, sound-tests, sound-counts}
+use Rattle.sound.proofs.Stretches.{used-stored}
+use Rattle.sound.proofs.Tables.{AtMost, places-counted, twos-padded}
+use Rattle.sound.proofs.TokensBuilt.{Some, Agrees, rulesBuilt-used, length-rulesBuilt, endsBuilt-of, completesBuilt-of, completeBuilt-of}
 
 -- ---- what is written from the start of a list on
 

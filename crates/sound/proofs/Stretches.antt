@@ -14,7 +14,7 @@ use Rattle.rete.specs.Built.{token, built}
 use Rattle.rete.specs.Weave.{oldsFrom}
 use Rattle.rete.specs.Rules.{rulesBuilt, endsBuilt, Stretches}
 use Rattle.rete.proofs.OldLaws.{olds-past}
-use Rattle.malletfrond.proofs.Stored.{Used}
+use Rattle.sound.proofs.Stored.{Used}
 
 -- ---- stored tokens: the first of them, and where they end
 

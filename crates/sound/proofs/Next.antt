@@ -11,9 +11,9 @@ use Rattle.room.specs.Layout.{headNumber, limit}
 use Rattle.room.specs.Held.{Once, inMemory}
 use Rattle.room.specs.Written.{Aside}
 use Rattle.rete.specs.Rules.{Told}
-use Rattle.malletfrond.specs.Sound.{Sound}
-use Rattle.malletfrond.proofs.Agree.{passSlot, Bits}
-use Rattle.malletfrond.proofs.SoundRoom.{testsIn, countsOf}
+use Rattle.sound.specs.Sound.{Sound}
+use Rattle.sound.proofs.Agree.{passSlot, Bits}
+use Rattle.sound.proofs.SoundRoom.{testsIn, countsOf}
 
 -- the slots that will be in use
 abbrev pub slotsNext : Aside → List ℕ
