@@ -1,6 +1,6 @@
 /* Malletfrond: a rule matcher over meter readings, in memory that the caller lends.
  *
- * Link with libmalletfrond_c.a (x86-64 Linux). The library allocates nothing, keeps nothing between calls and calls nothing outside itself.
+ * Link with libmalletfrond_c.a (x86-64 Linux). The library allocates nothing and keeps nothing between calls; of the C library it calls memcpy and memset alone.
  *
  * A ROOM is memory that holds a rule book, two limits, the readings present and what is matched. It is opened once and then lent whole, from its first byte, to
  * every call. It needs no alignment and may lie anywhere; it may be copied byte for byte. It needs MALLETFROND_ROOM(t) bytes; more may be lent, and what lies
