@@ -294,13 +294,11 @@ def run_case(rng, script):
         ask_step(script, room, rng.random() < 0.65, rng.choice(readings))
         ask_check(script, True)
         ask_counts(script, room)
-        if rng.random() < 0.5:
-            ask_held(script, room)
+        ask_held(script, room)
         if rng.random() < 0.3:
             count = room.counts()[2]
             ask_line(script, room, rng.choice((0, count // 2, max(count - 1, 0), count, 2**32 + 1, 2**64 - 1)),
                      rng.randint(0, 231))
-    ask_held(script, room)
     for k in range(min(room.counts()[2], 12) + 1):
         ask_line(script, room, k, 231)
 
@@ -490,7 +488,7 @@ def damage_case(rng, script):
 # ----------------------------------------------------------------------- main
 
 def main(words):
-    seed, scale = 20261115, 100
+    seed, scale = 20261115, 300
     if "--seed" in words:
         seed = int(words[words.index("--seed") + 1])
     if "--scale" in words:
