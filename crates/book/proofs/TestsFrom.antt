@@ -54,6 +54,13 @@ module _ (book : List ℕ) (place : ℕ) where
   unfolding testsFrom ifTest
   testsFrom-more n t e = rw e
 
+  -- the same, n of eight being read
+  pub testsFrom-next : (n : ℕ) (t : Test) (size : ℕ) → n < 8 → recordAt book place ≡ r.Test t → size ≡ testSize t
+      → testsFrom (8 - n) book place ≡ t ∷ testsFrom (8 - (n + 1)) book (place + size)
+  testsFrom-next n t size h e s =
+      let left : 8 - n ≡ suc (8 - (n + 1)) = omega arith in
+      rw (left, s) (testsFrom-more (8 - (n + 1)) t e)
+
   pub test-within : (t : Test) → recordAt book place ≡ r.Test t → place + testSize t ≤ length book
   unfolding sizeOf
   test-within t e = record-within book place (testSize t) (sym (ap sizeOf e)) .1 .1
@@ -70,10 +77,9 @@ read-none book at = record { count = refl; rest = refl }
 module _ (book : List ℕ) (at n place : ℕ) (done : List Test) (read : TestsRead book at n place done) where
   pub read-more : (t : Test) (size : ℕ) → n < 8 → recordAt book place ≡ r.Test t → size ≡ testSize t → TestsRead book at (n + 1) (place + size) (done ++ t ∷ [])
   read-more t size h e s =
-      let left : 8 - n ≡ suc (8 - (n + 1)) = omega arith in
       record {
         count = omega (arith, read .count, length-append done (t ∷ []));
-        rest = read .rest ∙ rw (left, testsFrom-more book place (8 - (n + 1)) t e, s) (sym (append-snoc done t _));
+        rest = read .rest ∙ rw (testsFrom-next book place n t size h e s) (sym (append-snoc done t _));
       }
 
   pub read-over : NoTest (recordAt book place) → testsAt book at ≡ done

@@ -5,6 +5,5 @@ pub mod IndexLaws
 pub mod Joined
 pub mod Noted
 pub mod Numbers
-pub mod Planes
 pub mod RowsLaws
 pub mod TokensAnew

@@ -62,41 +62,43 @@ module _ (s : State) (w : Reading) where
 
 -- ---- in a room that is not broken
 
-module _ (room : List ℕ) (w : Reading) (whole : broken room ≡ false) where
-  abbrev pub stands : Bool
-  stands = standsAt (orderPart (parts room)) (slotsPart (parts room)) (headNumber room 2) (rankIn room w) w
+pub present-many : (room : List ℕ) → broken room ≡ false → length (held room .readings) ≡ headNumber room 2
+present-many room whole = length-held-readings room (not-broken-whole room whole)
 
-  pub is-present : (s : Sound room) (b : Bool) → stands ≡ b → present (stateOf room s) w ≡ b
-  is-present s b e = sym (stands-present room s w) ∙ e
+-- whether w stands at place p of those present
+abbrev pub stands : List ℕ → Reading → ℕ → Bool
+stands room w p = standsAt (orderPart (parts room)) (slotsPart (parts room)) (headNumber room 2) p w
 
-  pub present-many : length (held room .readings) ≡ headNumber room 2
-  present-many = length-held-readings room (not-broken-whole room whole)
+-- the place p where w was looked up: its rank, if the room is sound
+module _ (room : List ℕ) (w : Reading) {p : ℕ} (place : Sound room → p ≡ rankIn room w) (whole : broken room ≡ false) where
+  pub is-present : (s : Sound room) (b : Bool) → stands room w p ≡ b → present (stateOf room s) w ≡ b
+  is-present s b e = sym (stands-present room s w) ∙ rw (place s) at e
 
-  pub adds-present : stands ≡ true → Steps room (add w) (a.Refused 11) room
+  pub adds-present : stands room w p ≡ true → Steps room (add w) (a.Refused 11) room
   unfolding refusals
   adds-present e = steps-refused room (add w) 11 whole (List·Memᴰ·head refl) (λ s. added-11 (stateOf room s) w (is-present s true e))
 
-  module _ (new : stands ≡ false) where
+  module _ (new : stands room w p ≡ false) where
     pub adds-full : headNumber room 0 ≤ headNumber room 2 → Steps room (add w) (a.Refused 13) room
     unfolding refusals held
     adds-full h =
         steps-refused room (add w) 13 whole (List·Memᴰ·tail (List·Memᴰ·head refl))
-        (λ s. added-13 (stateOf room s) w (is-present s false new) (omega (arith, present-many)))
+        (λ s. added-13 (stateOf room s) w (is-present s false new) (omega (arith, present-many room whole)))
 
-    module _ (free : headNumber room 2 < headNumber room 0) {tokens complete : ℕ} {room' : List ℕ} (at : AddedAt room (rankIn room w) w tokens complete room') (fits : Fits w) where
+    module _ (free : headNumber room 2 < headNumber room 0) {tokens complete : ℕ} {room' : List ℕ} (at : AddedAt room p w tokens complete room') (fits : Fits w) where
       module _ (s : Sound room) where
         abbrev with-it : List Reading
         with-it = inserted isLess w (held room .readings)
 
         free-is : length (held room .readings) < held room .E
         unfolding held
-        free-is = omega (arith, present-many)
+        free-is = omega (arith, present-many room whole)
 
         -- the tokens fit exactly where the definition's do
         over-is : limit room < tokens → limit room < bookCount (s .rules) with-it
         over-is h = ⊎-elim
             (λ (few : bookCount (s .rules) with-it ≤ limit room).
-            let n = adding-next room s w (is-present s false new) free at fits few in
+            let n = adding-next room s w (is-present s false new) free (place s) at fits few in
             absurd (omega (arith, next-tokens room room' s _ _ _ with-it complete n, at .tokens-are)))
             (λ over. over)
             (le-or-lt (bookCount (s .rules) with-it) (limit room))
@@ -104,7 +106,7 @@ module _ (room : List ℕ) (w : Reading) (whole : broken room ≡ false) where
         fits-is : tokens ≤ limit room → bookCount (s .rules) with-it ≤ limit room
         fits-is h = ⊎-elim
             (λ few. few)
-            (λ (over : limit room < bookCount (s .rules) with-it). absurd (omega (arith, adding-over room s w (is-present s false new) free at over)))
+            (λ (over : limit room < bookCount (s .rules) with-it). absurd (omega (arith, adding-over room s w (is-present s false new) free (place s) at over)))
             (le-or-lt (bookCount (s .rules) with-it) (limit room))
 
       pub adds-over : limit room < tokens → Steps room (add w) (a.Refused 14) room'
@@ -121,9 +123,9 @@ module _ (room : List ℕ) (w : Reading) (whole : broken room ≡ false) where
           (λ s.
           let R = held room .readings in
           let yes = added-yes (stateOf room s) w (is-present s false new) (free-is s) (fits-is s h) in
-          let n = adding-next room s w (is-present s false new) free at fits (fits-is s h) in
+          let n = adding-next room s w (is-present s false new) free (place s) at fits (fits-is s h) in
           let absent : List·Memᴰ w R → ⊥ = λ m. false≢true (sym (is-present s false new) ∙ mem-same isSame-exact w R .1 m) in
-          let readings : length (with-it s) ≡ headNumber room 2 + 1 = omega (arith, length-inserted isLess w R, present-many) in
+          let readings : length (with-it s) ≡ headNumber room 2 + 1 = omega (arith, length-inserted isLess w R, present-many room whole) in
           let count : bookCount (s .rules) (with-it s) ≡ tokens = sym (sym (at .tokens-are) ∙ next-tokens room room' s _ _ _ (with-it s) complete n) in
           let changed : length (notAmong (complaints (s .rules) R) (complaints (s .rules) (with-it s))) ≡ complete - completeOf room =
           appeared (s .rules) (sound-kept room s) w R absent ∙ rw (sym (next-complete room room' s _ _ _ (with-it s) complete n), sound-complete room s) in

@@ -1,12 +1,12 @@
 -- What the three demands rest on: no call changes what it may not, a room that a run has led to is in the state that the replies tell, and a line of its complaints fits
 -- a buffer of 230 bytes. Assumes nothing.
-use Prim.Native.Nat.{ℕ, zero, suc, _≤_, _<_}
+use Prim.Native.Nat.{ℕ, _≤_, _<_}
 use mathlib.Core.Path.{_≡_, refl, sym, ap, ap₂, _∙_, subst}
 use mathlib.Core.Bool.{Bool, true, false, not, _&&_, _||_, false≢true, and-eq-true-iff}
 use mathlib.Core.Logic.{inl}
-use mathlib.Core.List.{List, [], _∷_, List·Memᴰ, List·Memᴰ·head, List·Memᴰ·tail, List·Memᴰ·not-nil}
+use mathlib.Core.List.{List, [], _∷_, List·Memᴰ, List·Memᴰ·not-nil}
 use native.Mathlib.Omega.{arith}
-use lib.ListN.{length, drop, getD}
+use lib.ListN.{length, drop}
 use Rattle.book.specs.Rules.{Rule}
 use Rattle.book.specs.Limits.{All, Kept}
 use Rattle.book.proofs.Limits.{read-kept}
@@ -21,6 +21,7 @@ use Rattle.matching.proofs.Laws.Orders.{mem-inserted, without-inserted}
 use Rattle.matching.proofs.Laws.ReadingOrder.{isSame-exact}
 use Rattle.matching.proofs.Laws.Steps.{opened-settled, readings-unique, added-accepted}
 use Rattle.room.specs.Held.{Held, held}
+use Rattle.rete.proofs.OrderLaws.{mem-at}
 use Rattle.malletfrond.specs.declared.StepAnswer.{StepAnswer}
 use Rattle.malletfrond.specs.declared.StepAnswer.the-variants as a
 use Rattle.malletfrond.specs.declared.LineAnswer.{LineAnswer}
@@ -78,13 +79,6 @@ allowed-untouched room (line k buffer) reply room' p =
       long = (ap length (p .1), p .0 .long);
     }
 allowed-untouched room check reply room' p = record { refused = λ e. (p .1, refl); past = rw (p .1); behind = refl; short = omega arith; long = (ap length (p .1), refl) }
-
--- ---- lists
-
-mem-at : {A : Type 0} (list : List A) (k : ℕ) (d : A) → k < length list → List·Memᴰ (getD list k d) list
-mem-at [] k d h = absurd (omega arith)
-mem-at (x ∷ list) zero d h = List·Memᴰ·head refl
-mem-at (x ∷ list) (suc k) d h = List·Memᴰ·tail (mem-at list k d (omega arith))
 
 -- ---- what steps about readings of 32 bits replay to has numbers of 32 bits
 

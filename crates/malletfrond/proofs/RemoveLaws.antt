@@ -1,5 +1,5 @@
 -- A removal answered: refused where the reading is not present, and else accepted with its counts. Assumes nothing.
-use Prim.Native.Nat.{ℕ, _-_, _<_}
+use Prim.Native.Nat.{ℕ, _-_}
 use mathlib.Core.Path.{_≡_, refl, sym, ap, _∙_}
 use mathlib.Core.Bool.{true, false}
 use mathlib.Core.List.{List, List·Memᴰ·head}
@@ -14,16 +14,16 @@ use Rattle.matching.proofs.Laws.Members.{mem-same}
 use Rattle.matching.proofs.Laws.Orders.{length-inserted, inserted-without}
 use Rattle.matching.proofs.Laws.ReadingOrder.{isLess-order, isSame-exact}
 use Rattle.room.specs.Broken.{broken}
-use Rattle.room.specs.Layout.{headNumber}
+use Rattle.room.specs.Layout.{headNumber, parts, orderPart, slotsPart}
 use Rattle.room.specs.Held.{held, completeOf}
 use Rattle.step.specs.Worked.{RemovedAt}
 use Rattle.malletfrond.specs.declared.StepAnswer.the-variants as a
-use Rattle.sound.specs.Sound.{stateOf}
+use Rattle.sound.specs.Sound.{Sound, stateOf}
 use Rattle.malletfrond.specs.Answers.{refusals}
 use Rattle.malletfrond.specs.Promise.{Steps}
 use Rattle.malletfrond.proofs.AddLaws.{stands, is-present, present-many}
 use Rattle.sound.proofs.AnswerLaws.{vanished}
-use Rattle.sound.proofs.Ranks.{rankIn, rank-split}
+use Rattle.sound.proofs.Ranks.{rankIn, stands-there}
 use Rattle.sound.proofs.Removing.{removing-next}
 use Rattle.sound.proofs.Resumed.{next-tokens, next-complete}
 use Rattle.sound.proofs.SoundLaws.{sound-complete}
@@ -47,24 +47,25 @@ module _ (s : State) (w : Reading) where
 
 -- ---- in a room that is not broken
 
-module _ (room : List ℕ) (w : Reading) (whole : broken room ≡ false) where
-  pub removes-absent : stands room w whole ≡ false → Steps room (remove w) (a.Refused 12) room
+module _ (room : List ℕ) (w : Reading) {p : ℕ} (place : Sound room → p ≡ rankIn room w) (whole : broken room ≡ false) where
+  pub removes-absent : stands room w p ≡ false → Steps room (remove w) (a.Refused 12) room
   unfolding refusals
-  removes-absent e = steps-refused room (remove w) 12 whole (List·Memᴰ·head refl) (λ s. removed-12 (stateOf room s) w (is-present room w whole s false e))
+  removes-absent e = steps-refused room (remove w) 12 whole (List·Memᴰ·head refl) (λ s. removed-12 (stateOf room s) w (is-present room w place whole s false e))
 
-  pub removes-accepted : stands room w whole ≡ true → rankIn room w < headNumber room 2 → {tokens complete : ℕ} {room' : List ℕ} → RemovedAt room (rankIn room w) tokens complete room'
+  pub removes-accepted : stands room w p ≡ true → {tokens complete : ℕ} {room' : List ℕ} → RemovedAt room p tokens complete room'
       → Steps room (remove w) (a.Accepted (headNumber room 2 - 1) tokens (completeOf room - complete)) room'
   unfolding held
-  removes-accepted there low {tokens} {complete} {room'} at =
+  removes-accepted there {tokens} {complete} {room'} at =
       steps-accepted room room' (remove w) (headNumber room 2 - 1) tokens (completeOf room - complete) (at .aside) _ _ complete whole (at .written) (at .long)
       (λ s.
       let R = held room .readings in
       let R' = without isSame w R in
-      let yes = removed-yes (stateOf room s) w (is-present room w whole s true there) in
-      let n = removing-next room s w (rankIn room w) low (rank-split room s w there .1) at in
-      let old = mem-same isSame-exact w R .0 (is-present room w whole s true there) in
+      let yes = removed-yes (stateOf room s) w (is-present room w place whole s true there) in
+      let found = stands-there (slotsPart (parts room)) w (orderPart (parts room)) (headNumber room 2) p there in
+      let n = removing-next room s w p (found .0) (found .1) at in
+      let old = mem-same isSame-exact w R .0 (is-present room w place whole s true there) in
       let readings : length R' ≡ headNumber room 2 - 1 =
-      omega (arith, length-inserted isLess w R', ap length (inserted-without isSame-exact w isLess-order (s .ascending) old), present-many room w whole) in
+      omega (arith, length-inserted isLess w R', ap length (inserted-without isSame-exact w isLess-order (s .ascending) old), present-many room whole) in
       let count : bookCount (s .rules) R' ≡ tokens = sym (sym (at .tokens-are) ∙ next-tokens room room' s _ _ _ R' complete n) in
       let changed : length (notAmong (complaints (s .rules) R') (complaints (s .rules) R)) ≡ completeOf room - complete =
       vanished (s .rules) (sound-kept room s) w R ∙ rw (sym (next-complete room room' s _ _ _ R' complete n), sound-complete room s) in

@@ -5,10 +5,13 @@ pub mod Grown
 pub mod LentLaws
 pub mod OldLaws
 pub mod OrderLaws
+pub mod Planes
 pub mod RowLaws
 pub mod RuleLaws
 pub mod Settled
+pub mod SieveLaws
 pub mod SiftLaws
 pub mod SplicedLaws
 pub mod Untouched
 pub mod ViewLaws
+pub mod Written

@@ -1,48 +1,146 @@
--- Laws of an order of slots: how many stand first that pass a test, and the order with a slot put in or taken out, which names each slot as often as before.
--- Assumes nothing.
-use Prim.Native.Nat.{ℕ, suc, _+_, _-_, _≤_, _<_}
-use mathlib.Core.Path.{_≡_, sym, ap, _∙_}
-use mathlib.Core.Bool.{Bool, true, false}
-use mathlib.Core.List.{List, [], _∷_, _++_, append-assoc}
+-- Laws of an order of slots: the rank of a reading, which is how many stand first that come before it; a place of slots whose readings ascend is below the rank exactly
+-- when its reading comes before; and the order with a slot put in or taken out, which names each slot as often as before. Assumes nothing.
+use Prim.Native.Nat.{ℕ, zero, suc, _+_, _-_, _≤_, _<_}
+use mathlib.Core.Path.{_≡_, refl, sym, ap, _∙_}
+use mathlib.Core.Bool.{Bool, true, false, cond, false≢true, not-eq-not}
+use mathlib.Core.Logic.{⊎-elim}
+use mathlib.Core.List.{List, [], _∷_, _++_, map, append-assoc}
+use mathlib.Core.List.{List·Memᴰ, List·Memᴰ·head, List·Memᴰ·tail, List·Memᴰ·not-nil, List·Memᴰ·cases-cons, Memᴰ·map}
 use native.Mathlib.Numerals.{add-one}
 use native.Mathlib.Omega.{arith}
-use lib.ListN.{length, take, drop, getD, length-append, take-append-drop, drop-of-length-le}
-use lib.Seq.{take-at, take-take, split-at, drop-cons, length-take-le, length-slice, getD-take}
+use lib.ListN.{length, take, drop, getD, length-append, length-drop, take-append-drop}
+use lib.Seq.{take-at, take-take, split-at, length-take-le, length-slice, getD-take, getD-drop}
 use Rattle.numbers.specs.Spliced.{spliced}
 use Rattle.numbers.proofs.Spliced.{spliced-twice}
+use Rattle.reading.specs.declared.Reading.{Reading}
+use Rattle.reading.specs.Reading.{isLess, readingAt}
+use Rattle.matching.specs.Order.{Less, Sorted, first, Each}
+use Rattle.matching.proofs.Laws.ReadingOrder.{isLess-order}
 use Rattle.room.specs.Held.{times, Once}
 use Rattle.room.proofs.Order.{times-append}
-use Rattle.rete.specs.Row.{leading, movedIn, movedOut}
+use Rattle.rete.specs.Row.{leading, lesser, movedIn, movedOut}
+use Rattle.rete.proofs.Grown.{le-or-lt}
 use Rattle.rete.proofs.SplicedLaws.{length-stretch, stretch-one, stretch-up-to, stretch-rest, spliced-whole}
+
+-- ---- lists
+
+pub mem-at : {A : Type 0} (list : List A) (k : ℕ) (d : A) → k < length list → List·Memᴰ (getD list k d) list
+mem-at [] k d h = absurd (omega arith)
+mem-at (x ∷ list) zero d h = List·Memᴰ·head refl
+mem-at (x ∷ list) (suc k) d h = List·Memᴰ·tail (mem-at list k d (omega arith))
 
 -- ---- leading
 
--- the first j of l pass p
-abbrev pub Lead : (ℕ → Bool) → List ℕ → ℕ → Type 0
-Lead p l j = leading p l ≡ j + leading p (drop j l)
+pub leading-within : (p : ℕ → Bool) (l : List ℕ) → leading p l ≤ length l
+unfolding leading
+leading-within p [] = omega arith
+leading-within p (s ∷ l) = by (p s) (leading-within p l)
+  where
+    by : (b : Bool) → leading p l ≤ length l → cond b (suc (leading p l)) 0 ≤ suc (length l)
+    by true h = omega arith
+    by false h = omega arith
 
-module _ (p : ℕ → Bool) (order : List ℕ) (n j : ℕ) (long : n ≤ length order) (so : Lead p (take n order) j) where
+-- ---- slots whose readings ascend
+
+module _ (slots : List ℕ) (w : Reading) where
+  -- the rank of w among the readings at the slots os
+  abbrev pub rank : List ℕ → ℕ
+  rank os = leading (lesser slots w) os
+
+  -- what does not come before w comes before nothing that does
+  behind : (x : ℕ) (r : Reading) → isLess (readingAt slots x) w ≡ false → Less isLess (readingAt slots x) r → isLess r w ≡ false
+  behind x r e h = not-eq-not .0 λ (q : isLess r w ≡ true). false≢true (sym e ∙ isLess-order .transitive (readingAt slots x) r w h q)
+
+  pub leading-low : (os : List ℕ) → Each (λ r. isLess r w) true (map (readingAt slots) (take (rank os) os))
+  unfolding leading
+  leading-low [] = λ r m. absurd (List·Memᴰ·not-nil m)
+  leading-low (x ∷ os) = by (lesser slots w x) refl (leading-low os)
+    where
+      by : (b : Bool) → lesser slots w x ≡ b → Each (λ r. isLess r w) true (map (readingAt slots) (take (rank os) os))
+          → Each (λ r. isLess r w) true (map (readingAt slots) (take (cond b (suc (rank os)) 0) (x ∷ os)))
+      by true e h r m = ⊎-elim (λ (q : r ≡ readingAt slots x). rw q e) (h r) (List·Memᴰ·cases-cons m)
+      by false e h r m = absurd (List·Memᴰ·not-nil m)
+
+  pub leading-high : (os : List ℕ) → Sorted (Less isLess) (map (readingAt slots) os) → Each (λ r. isLess r w) false (map (readingAt slots) (drop (rank os) os))
+  unfolding leading
+  leading-high [] up = λ r m. absurd (List·Memᴰ·not-nil m)
+  leading-high (x ∷ os) (first f up) = by (lesser slots w x) refl (leading-high os up)
+    where
+      by : (b : Bool) → lesser slots w x ≡ b → Each (λ r. isLess r w) false (map (readingAt slots) (drop (rank os) os))
+          → Each (λ r. isLess r w) false (map (readingAt slots) (drop (cond b (suc (rank os)) 0) (x ∷ os)))
+      by true e h r m = h r m
+      by false e h r m = ⊎-elim (λ (q : r ≡ readingAt slots x). rw q e) (λ i. behind x r e (f r i)) (List·Memᴰ·cases-cons m)
+
+  -- a place whose reading comes before w is below the rank, and any other is not
+  module _ (os : List ℕ) (k : ℕ) (h : k < length os) where
+    pub leading-above : Sorted (Less isLess) (map (readingAt slots) os) → lesser slots w (getD os k 0) ≡ true → k < rank os
+    leading-above up e = ⊎-elim
+        (λ (low : rank os ≤ k).
+        let after : List ℕ = drop (rank os) os in
+        let there : k - rank os < length after = omega (arith, length-drop (rank os) os) in
+        let q : rank os + (k - rank os) ≡ k = omega arith in
+        let at : getD after (k - rank os) 0 ≡ getD os k 0 = getD-drop (rank os) os (k - rank os) 0 ∙ rw q in
+        let not : lesser slots w (getD after (k - rank os) 0) ≡ false = leading-high os up _ (Memᴰ·map (readingAt slots) (mem-at after (k - rank os) 0 there)) in
+        absurd (false≢true (sym (rw at at not) ∙ e)))
+        (λ high. high)
+        (le-or-lt (rank os) k)
+
+    pub leading-below : lesser slots w (getD os k 0) ≡ false → rank os ≤ k
+    leading-below e = ⊎-elim
+        (λ low. low)
+        (λ (high : k < rank os).
+        let before : List ℕ = take (rank os) os in
+        let there : k < length before = omega (arith, length-take-le (rank os) os (leading-within (lesser slots w) os)) in
+        let is : lesser slots w (getD before k 0) ≡ true = leading-low os _ (Memᴰ·map (readingAt slots) (mem-at before k 0 there)) in
+        absurd (false≢true (sym e ∙ rw (getD-take (rank os) os k 0 high) at is)))
+        (le-or-lt (rank os) k)
+
+-- ---- the rank between two places
+
+-- where the readings of the first n ascend, the rank of w is from low to high
+pub record Between (slots : List ℕ) (w : Reading) (order : List ℕ) (n low high : ℕ) : Type 0 where
+  pub rises : low ≤ high
+  pub within : high ≤ n
+  pub ranked : Sorted (Less isLess) (map (readingAt slots) (take n order)) → (low ≤ rank slots w (take n order)) × (rank slots w (take n order) ≤ high)
+
+module _ (slots : List ℕ) (w : Reading) (order : List ℕ) (n : ℕ) (long : n ≤ length order) where
   length-first : length (take n order) ≡ n
   length-first = length-take-le n order long
 
-  pub lead-all : n ≤ j → j ≡ leading p (take n order)
-  unfolding leading
-  lead-all h =
-      let k : length (take n order) ≤ j = rw length-first h in
-      let e : leading p (take n order) ≡ j + 0 = rw (drop-of-length-le (take n order) k) at so in
-      omega arith
+  pub between-all : Between slots w order n 0 n
+  between-all = record {
+    rises = omega arith;
+    within = omega arith;
+    ranked = λ up. (omega arith, omega (arith, length-first, leading-within (lesser slots w) (take n order)));
+  }
 
-  module _ (h : j < n) where
-    drop-first : drop j (take n order) ≡ getD order j 0 ∷ drop (j + 1) (take n order)
-    drop-first = drop-cons (take n order) j 0 (rw length-first h) ∙ rw (getD-take n order j 0 h, add-one)
+  module _ (low high : ℕ) (b : Between slots w order n low high) where
+    pub between-met : high ≤ low → (low ≤ n) × (Sorted (Less isLess) (map (readingAt slots) (take n order)) → low ≡ rank slots w (take n order))
+    between-met met = (omega arith, λ up. omega (arith, b .ranked up .0, b .ranked up .1))
 
-    pub lead-stop : p (getD order j 0) ≡ false → j ≡ leading p (take n order)
-    unfolding leading
-    lead-stop e = let k : leading p (take n order) ≡ j + 0 = rw (drop-first, e) at so in omega arith
+    module _ (mid : ℕ) (below : mid < high) where
+      mid-within : mid < n
+      mid-within = omega arith
 
-    pub lead-more : p (getD order j 0) ≡ true → Lead p (take n order) (j + 1)
-    unfolding leading
-    lead-more e = let k : leading p (take n order) ≡ j + suc (leading p (drop (j + 1) (take n order))) = rw (drop-first, e) at so in omega arith
+      mid-first : mid < length (take n order)
+      mid-first = omega (arith, length-first)
+
+      mid-is : getD (take n order) mid 0 ≡ getD order mid 0
+      mid-is = getD-take n order mid 0 mid-within
+
+      pub between-above : lesser slots w (getD order mid 0) ≡ true → Between slots w order n (mid + 1) high
+      between-above e = record {
+        rises = omega arith;
+        within = omega arith;
+        ranked = λ up. (omega (arith, leading-above slots w (take n order) mid mid-first up (rw mid-is e)), b .ranked up .1);
+      }
+
+      pub between-below : low ≤ mid → lesser slots w (getD order mid 0) ≡ false → Between slots w order n low mid
+      between-below above e = record {
+        rises = above;
+        within = omega arith;
+        ranked = λ up. (b .ranked up .0, leading-below slots w (take n order) mid mid-first (rw mid-is e));
+      }
 
 -- ---- an order written in four parts
 

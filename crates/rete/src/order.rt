@@ -1,25 +1,31 @@
 // The order of slots: where a reading stands or would stand, and the order with a slot put in or taken out.
 ghost use mathlib.Core.Path.{_≡_};
 ghost use Prim.Native.Nat.{_+_, _≤_, _<_};
-ghost use lib.ListN.{length, take, drop};
-ghost use Rattle.numbers.specs.Spliced.{spliced};
+ghost use mathlib.Core.List.{map};
+ghost use lib.ListN.{length, take};
+ghost use Rattle.reading.specs.Reading.{isLess, readingAt};
+ghost use Rattle.matching.specs.Order.{Less, Sorted};
 ghost use Rattle.rete.specs.Row.{leading, lesser, standsAt, movedIn, movedOut};
+use crate::copy::copy_from;
 use reading::Reading;
 
-// How many of the first n slots have a reading that comes before w.
+// How many of the first n slots have a reading that comes before w, found by halving: of slots whose readings ascend. Of any other a place up to n.
 pub fn rank_of(order: &[u8], slots: &[u8], n: usize, w: Reading) -> usize
     requires { ⌜ (n ≤ length (now order)) × (length (now slots) ≡ 3072) ⌝ }
-    ensures { λ r. ⌜ (r ≡ leading (lesser (now (slots .entry)) w) (take n (now (order .entry)))) × (r ≤ n) ⌝ }
+    ensures { λ r. ⌜ (r ≤ n) × (Sorted (Less isLess) (map (readingAt (now (slots .entry))) (take n (now (order .entry)))) → r ≡ leading (lesser (now (slots .entry)) w) (take n (now (order .entry)))) ⌝ }
 {
-    let mut j: usize = 0;
-    while j < n {
-        let r = reading::reading_at(slots, order[j] as usize);
-        if !reading::is_less(r, w) {
-            return j;
+    let mut low: usize = 0;
+    let mut high = n;
+    while low < high {
+        let mid = low + (high - low) / 2;
+        let r = reading::reading_at(slots, order[mid] as usize);
+        if reading::is_less(r, w) {
+            low = mid + 1;
+        } else {
+            high = mid;
         }
-        j += 1;
     }
-    j
+    low
 }
 
 // Whether w stands at place p of the first n.
@@ -31,18 +37,6 @@ pub fn stands_at(order: &[u8], slots: &[u8], n: usize, p: usize, w: Reading) -> 
         return false;
     }
     reading::is_same(reading::reading_at(slots, order[p] as usize), w)
-}
-
-// Copies n slots of the order, from `from` on, to place `to` and on.
-fn copy_from(next: &mut [u8], to: usize, order: &[u8], from: usize, n: usize)
-    requires { ⌜ (to + n ≤ length (now next)) × (from + n ≤ length (now order)) ⌝ }
-    ensures { λ _. ⌜ now (next .exit) ≡ spliced (now (next .entry)) to (take n (drop from (now (order .entry)))) ⌝ }
-{
-    let mut i: usize = 0;
-    while i < n {
-        next[to + i] = order[from + i];
-        i += 1;
-    }
 }
 
 // The slot at n goes to place p.

@@ -30,14 +30,14 @@ use Rattle.rete.specs.Row.{RowOf, bookFlags, lesser, movedIn}
 use Rattle.rete.specs.Rules.{rulesBuilt, Stretches, Told}
 use Rattle.rete.specs.View.{readOf, bitOf, passOf, read, pass}
 use Rattle.rete.specs.Weave.{before, Woven}
-use Rattle.rete.proofs.OrderLaws.{take-movedIn, once-movedIn}
+use Rattle.rete.proofs.OrderLaws.{leading-within, take-movedIn, once-movedIn}
 use Rattle.step.specs.Worked.{bookIn, countsIn, endsIn, slotIn, viewIn, seenIn, AddedAt}
 use Rattle.checking.proofs.Extent.{told-ext}
 use Rattle.sound.specs.Sound.{Sound, stateOf}
 use Rattle.sound.proofs.Agree.{passSlot, Bits, bits-ext}
 use Rattle.sound.proofs.Next.{Next, slotsNext}
 use Rattle.sound.proofs.Once.{once-new}
-use Rattle.sound.proofs.Ranks.{rankIn, order-long, leading-within, rank-low, rank-high, rank-inserted}
+use Rattle.sound.proofs.Ranks.{rankIn, order-long, rank-low, rank-high, rank-inserted}
 use Rattle.sound.proofs.ReadBack.{Fits, read-back, bit-back}
 use Rattle.sound.proofs.SoundRoom.{readIn, testsIn, countsOf, sound-kept, sound-bits, sound-tests, sound-counts, sound-stretches}
 use Rattle.sound.proofs.Tables.{sum-counts}
@@ -169,9 +169,12 @@ module _ (room : List ℕ) (s : Sound room) (w : Reading) (new : present (stateO
 
   -- ---- what the step has worked out
 
-  module _ {tokens complete : ℕ} {room' : List ℕ} (added : AddedAt room (rankIn room w) w tokens complete room') where
+  module _ {p : ℕ} (place : p ≡ rankIn room w) {tokens complete : ℕ} {room' : List ℕ} (added : AddedAt room p w tokens complete room') where
+    moved-in : added .aside .order ≡ movedIn (orderPart (parts room)) (rankIn room w) (headNumber room 2)
+    moved-in = added .order-is ∙ ap (λ (q : ℕ). movedIn (orderPart (parts room)) q (headNumber room 2)) place
+
     order-next : take (headNumber room 2 + 1) (added .aside .order) ≡ orderWith room w
-    order-next = ap (take (headNumber room 2 + 1)) (added .order-is) ∙ order-with
+    order-next = ap (take (headNumber room 2 + 1)) moved-in ∙ order-with
 
     told-seen : Told (limit room) (orderWith room w) (read (seenIn room (added .row) w)) (pass (seenIn room (added .row) w)) (countsOf room s) (replicate 2048 0) (replicate 2048 0)
         (replicate 32 0) (replicate 32 0) tokens complete (added .aside .nodes) (added .aside .lasts) (added .aside .ends) (added .aside .completes)
@@ -212,8 +215,8 @@ module _ (room : List ℕ) (s : Sound room) (w : Reading) (new : present (stateO
           bits-ext (orderWith room w) sees (readingAt slots) (bitOf (rowsPart (parts room)) row (viewIn room w)) (inMemory rows) 192 (λ t m. next-read t) (λ c t h m. next-bit c t h)
           0 (s .rules) (omega (arith, conditions-few)) (order-bits row (added .made)) in
           record {
-            order-long = ap length (added .order-is) ∙ length-movedIn (orderPart (parts room)) (rankIn room w) (headNumber room 2) rank-within free-within ∙ order-long room s;
-            once = rw (added .order-is) (once-movedIn (orderPart (parts room)) (rankIn room w) (headNumber room 2) rank-within free-within (s .arranged .once));
+            order-long = ap length moved-in ∙ length-movedIn (orderPart (parts room)) (rankIn room w) (headNumber room 2) rank-within free-within ∙ order-long room s;
+            once = rw moved-in (once-movedIn (orderPart (parts room)) (rankIn room w) (headNumber room 2) rank-within free-within (s .arranged .once));
             few = omega (arith, added .readings-are);
             reads = ap (map (readingAt slots)) is ∙ map-ext (readingAt slots) sees (orderWith room w) (λ t m. sym (next-read t)) ∙ order-reads row;
             ascending = inserted-sorted isLess w isLess-order (s .ascending) absent;

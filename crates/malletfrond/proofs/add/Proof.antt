@@ -120,7 +120,7 @@ same-length-2 : tie.Need-same-length-2
 same-length-2 c = search needs
 
 returns-2 : tie.Need-returns-2
-returns-2 c = let k = looks (c .before) in adds-present _ _ (k .whole) (k .found-is ∙ c .if2 .taken)
+returns-2 c = let k = looks (c .before) in adds-present _ _ (k .p-is) (k .whole) (k .found-is ∙ c .if2 .taken)
 
 two-at-requires-3 : tie.Need-two-at-requires-3
 two-at-requires-3 c κs = in-room _ (looks (c .before .before) .whole) (lit≤ tt)

@@ -110,7 +110,7 @@ same-length-2 : tie.Need-same-length-2
 same-length-2 c = search needs
 
 returns-2 : tie.Need-returns-2
-returns-2 c = let k = looks (c .before) in removes-absent _ _ (k .whole) (k .found-is ∙ not-true _ (c .if2 .taken))
+returns-2 c = let k = looks (c .before) in removes-absent _ _ (k .p-is) (k .whole) (k .found-is ∙ not-true _ (c .if2 .taken))
 
 complete-of-requires : tie.Need-complete-of-requires
 complete-of-requires c κs = looks (c .before .before) .whole

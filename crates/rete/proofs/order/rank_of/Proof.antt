@@ -1,47 +1,45 @@
--- `rete::order::rank_of` meets its contract. The loop's invariant: the first j slots come before w, and the loop ends at the first that does not. Assumes nothing.
-use Prim.Native.Nat.{_-_, _≤_}
+-- `rete::order::rank_of` meets its contract. The loop's invariant: where the readings ascend the rank is from low to high, and the one in the middle says in which half.
+-- The measure is high - low. Assumes nothing.
+use Prim.Native.Nat.{ℕ, _+_, _-_, _/_}
 use native.Mathlib.Omega.{arith}
-use borrow.Author.Tests.{not-true, not-false}
 use borrow.Author.Needs.{needs}
-use lib.ListN.{take}
-use Rattle.rete.specs.Row.{lesser}
-use Rattle.rete.proofs.OrderLaws.{Lead, lead-all, lead-stop, lead-more}
+use Rattle.rete.proofs.OrderLaws.{Between, between-all, between-met, between-above, between-below}
 use Rattle.rete.proofs.order.rank_of.Statement.{statement}
 use Rattle.rete.proofs.order.rank_of.Tie as tie
 
 abbrev Inv-loop : tie.InvT-loop
-Inv-loop order slots n w j₀ j = (j ≤ n) × Lead (lesser slots w) (take n order) j
+Inv-loop order slots n w low₀ high₀ low high = Between slots w order n low high
 
 abbrev μ-loop : tie.MeasureT-loop
-μ-loop order slots n w j₀ j = n - j
+μ-loop order slots n w low₀ high₀ low high = high - low
+
+-- the place in the middle
+abbrev mid : tie.At-loop Inv-loop μ-loop → ℕ
+mid c = c .loop .low + (c .loop .high - c .loop .low) / 2
 
 loop-holds : tie.Need-loop-holds Inv-loop μ-loop
-loop-holds c = (search needs, omega arith)
+loop-holds c = between-all _ _ _ _ (omega arith)
+
+sub-mid : tie.Need-sub-mid Inv-loop μ-loop
+sub-mid c = search needs
+
+add-mid : tie.Need-add-mid Inv-loop μ-loop
+add-mid c = search needs
 
 shared-slice-read-reading-at : tie.Need-shared-slice-read-reading-at Inv-loop μ-loop
 shared-slice-read-reading-at c = search needs
 
 cast-reading-at : tie.Need-cast-reading-at Inv-loop μ-loop
-cast-reading-at c = omega (arith, c .shared-slice-known3 .given (c .before .before .loop .j))
+cast-reading-at c = omega (arith, c .shared-slice-known3 .given (mid (c .before .before)))
 
 reading-at-requires : tie.Need-reading-at-requires Inv-loop μ-loop
-reading-at-requires c κs = omega (arith, c .shared-slice-known3 .given (c .before .before .loop .j))
+reading-at-requires c κs = omega (arith, c .shared-slice-known3 .given (mid (c .before .before)))
 
 is-less-requires : tie.Need-is-less-requires Inv-loop μ-loop
 is-less-requires c κs = search needs
 
-returns : tie.Need-returns Inv-loop μ-loop
-returns c =
-    let e = c .before .before in
-    let l = e .before .before .before .loop in
-    let a = e .before .before .before .before .before .before .args in (
-      lead-stop (lesser (a .slots .now) (a .w)) (a .order .now) (a .n) (l .j) (omega arith) (l .inv .1) (omega arith)
-          (rw (← e .reading-at .ensures, ← c .before .is-less .ensures) (not-true _ (c .if1 .taken))),
-      search needs,
-    )
-
-add-j : tie.Need-add-j Inv-loop μ-loop
-add-j c = search needs
+add-low : tie.Need-add-low Inv-loop μ-loop
+add-low c = search needs
 
 loop-less : tie.Need-loop-less Inv-loop μ-loop
 loop-less c = search needs
@@ -49,18 +47,20 @@ loop-less c = search needs
 loop-again : tie.Need-loop-again Inv-loop μ-loop
 loop-again c =
     let e = c .before .before in
-    let l = e .before .before .before .loop in
-    let a = e .before .before .before .before .before .before .args in (
-      search needs,
-      lead-more (lesser (a .slots .now) (a .w)) (a .order .now) (a .n) (l .j) (omega arith) (l .inv .1) (omega arith)
-          (rw (← e .reading-at .ensures, ← c .before .is-less .ensures) (not-false _ (c .if1 .left))),
-    )
+    let l = e .before .before .before in
+    between-above _ _ _ _ (omega arith) _ _ (l .loop .inv) (mid l) (omega arith) (rw (← e .reading-at .ensures, ← c .before .is-less .ensures) (c .if1 .taken))
 
-returns-2 : tie.Need-returns-2 Inv-loop μ-loop
-returns-2 c =
-    let l = c .before .loop in
-    let a = c .before .before .before .before .args in
-    (lead-all (lesser (a .slots .now) (a .w)) (a .order .now) (a .n) (l .j) (omega arith) (l .inv .1) (omega arith), search needs)
+loop-less-2 : tie.Need-loop-less-2 Inv-loop μ-loop
+loop-less-2 c = search needs
+
+loop-again-2 : tie.Need-loop-again-2 Inv-loop μ-loop
+loop-again-2 c =
+    let e = c .before .before in
+    let l = e .before .before .before in
+    between-below _ _ _ _ (omega arith) _ _ (l .loop .inv) (mid l) (omega arith) (omega arith) (rw (← e .reading-at .ensures, ← c .before .is-less .ensures) (c .if1 .left))
+
+returns : tie.Need-returns Inv-loop μ-loop
+returns c = between-met _ _ _ _ (omega arith) _ _ (c .before .loop .inv) (omega arith)
 
 pub rank-of-spec : {M : Type 1} → statement M
 rank-of-spec =
@@ -69,12 +69,15 @@ rank-of-spec =
     Inv-loop
     μ-loop
     loop-holds
+    sub-mid
+    add-mid
     shared-slice-read-reading-at
     cast-reading-at
     reading-at-requires
     is-less-requires
-    returns
-    add-j
+    add-low
     loop-less
     loop-again
-    returns-2)
+    loop-less-2
+    loop-again-2
+    returns)
