@@ -4,3 +4,4 @@ pub mod Weave
 pub mod Sift
 pub mod Row
 pub mod Rules
+pub mod Blocks
