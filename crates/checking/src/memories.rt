@@ -10,7 +10,6 @@ ghost use Rattle.checking.specs.Checked.{RowsAgree};
 use numbers::two_at;
 use reading::reading_at;
 use rete::row::make_row;
-use rete::view::bit_at;
 use room::layout::BOOK;
 use room::layout::CONDITION_PLACES;
 use room::layout::ENDS;
@@ -20,6 +19,7 @@ use room::layout::ROWS;
 use room::layout::RULE_CONDITIONS;
 use room::layout::RULE_PLACES;
 use room::layout::SLOTS;
+use weave::view::bit_at;
 
 // Whether row s has the bits of the first n conditions of a row made anew.
 pub fn row_agrees(rows: &[u8], s: usize, row: &[u8], n: usize) -> bool

@@ -6,7 +6,7 @@ use native.Mathlib.Omega.{arith}
 use lib.ListN.{length, take, drop, set, length-append}
 use Rattle.numbers.specs.Spliced.{spliced}
 use Rattle.numbers.proofs.Spliced.{spliced-nil, set-spliced, spliced-twice, length-spliced, lent-spliced}
-use Rattle.rete.proofs.SplicedLaws.{length-stretch}
+use Rattle.weave.proofs.SplicedLaws.{length-stretch}
 
 -- x is xs with ys written at its front, up to a
 pub record Front (xs ys x : List ℕ) (a : ℕ) : Type 0 where

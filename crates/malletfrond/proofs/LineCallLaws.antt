@@ -21,7 +21,7 @@ use Rattle.room.specs.Parts.{part}
 use Rattle.room.proofs.BrokenLaws.{Whole, not-broken-whole}
 use Rattle.room.proofs.Large.{large-part}
 use Rattle.step.proofs.Lending.{in-room}
-use Rattle.rete.proofs.Grown.{le-or-lt}
+use Rattle.weave.proofs.Grown.{le-or-lt}
 use Rattle.lines.specs.Found.{ComplaintAt}
 use Rattle.lines.specs.Line.{ending, lineText, lengthIn, textIn}
 use Rattle.malletfrond.specs.declared.LineAnswer.{LineAnswer}

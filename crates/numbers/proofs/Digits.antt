@@ -4,7 +4,7 @@ use Prim.Native.Nat.{ℕ, zero, suc, _+_, _*_, _/_, _%_, _^_, _≤_, _<_}
 use mathlib.Core.Path.{_≡_, refl, sym, ap, _∙_}
 use mathlib.Core.List.{List, [], _∷_, _++_}
 use native.Mathlib.Decide.{decLe}
-use native.Mathlib.Nat.{pow-suc, lt-of-not-le}
+use native.Mathlib.Nat.{pow-suc, one-le-pow, lt-of-not-le}
 use native.Mathlib.Omega.{arith}
 use borrow.Author.Tests.{lt-ltb, le-ltb}
 use lib.ListN.{length, length-append}
@@ -48,6 +48,25 @@ length-digits-small x h = ap length (digits-small x h)
 pub length-digits-large : (x : ℕ) → 10 ≤ x → length (digits x) ≡ length (digits (x / 10)) + 1
 length-digits-large x h = ap length (digits-large x h) ∙ length-append (digits (x / 10)) ((48 + x % 10) ∷ [])
 
+length-digits-some : (x : ℕ) → 1 ≤ length (digits x)
+length-digits-some x = elim (decLe 10 x) [
+  | yes w ↦ omega (arith, length-digits-large x w)
+  | no w ↦ omega (arith, length-digits-small x (lt-of-not-le w))
+]
+
+-- one digit is that of a number below ten, and more are those of one from ten on
+pub one-digit : (x : ℕ) → length (digits x) ≤ 1 → (x < 10) × (length (digits x) ≡ 1)
+one-digit x h = elim (decLe 10 x) [
+  | yes w ↦ absurd (omega (arith, length-digits-large x w, length-digits-some (x / 10)))
+  | no w ↦ (lt-of-not-le w, length-digits-small x (lt-of-not-le w))
+]
+
+pub more-digits : (x : ℕ) → 1 < length (digits x) → 10 ≤ x
+more-digits x h = elim (decLe 10 x) [
+  | yes w ↦ w
+  | no w ↦ absurd (omega (arith, length-digits-small x (lt-of-not-le w)))
+]
+
 -- a number below 10 ^ (k + 1) has from 1 to k + 1 digits
 pub length-digits : (k x : ℕ) → x < 10 ^ suc k → (1 ≤ length (digits x)) × (length (digits x) ≤ suc k)
 length-digits zero x h = omega (arith, length-digits-small x h)
@@ -57,6 +76,15 @@ length-digits (suc k) x h =
       | yes w ↦ omega (arith, length-digits-large x w, length-digits k (x / 10) (omega arith))
       | no w ↦ omega (arith, length-digits-small x (lt-of-not-le w))
     ]
+
+-- and one from 10 ^ k on has k + 1
+pub length-digits-from : (k x : ℕ) → 10 ^ k ≤ x → x < 10 ^ suc k → length (digits x) ≡ suc k
+length-digits-from zero x l h = length-digits-small x h
+length-digits-from (suc k) x l h =
+    let i : 10 ^ k * 10 ≤ x = rw (pow-suc 10 k) at l in
+    let j : x < 10 ^ suc k * 10 = rw (pow-suc 10 (suc k)) at h in
+    let large : 10 ≤ x = omega (arith, one-le-pow k 10 (omega arith)) in
+    omega (arith, length-digits-large x large, length-digits-from k (x / 10) (omega arith) (omega arith))
 
 pub length-digits-32 : (x : ℕ) → x < 2 ^ 32 → (1 ≤ length (digits x)) × (length (digits x) ≤ 10)
 length-digits-32 x h = length-digits 9 x (omega arith)

@@ -93,6 +93,12 @@ module _ {A : Type 0} where
         ∙ length-append (take a xs ++ ys) (drop (a + length ys) xs)
         ∙ omega (arith, length-head (omega arith), length-drop (a + length ys) xs)
 
+  -- a part written at the front, up to one that stands already
+  pub spliced-up-to : (xs ys : List A) (b : ℕ) (zs : List A) → b ≤ length xs → b ≡ length ys → spliced (spliced xs b zs) 0 ys ≡ spliced xs 0 (ys ++ zs)
+  spliced-up-to xs ys b zs h e =
+      let end : b + length zs ≡ length (ys ++ zs) = omega (arith, length-append ys zs) in
+      rw (spliced-front, spliced-front, ← e, drop-here xs b zs h, end) (sym (append-assoc ys zs (drop (length (ys ++ zs)) xs)))
+
   -- ---- a part lent from the middle
 
   -- the rest from a on, lent, with ys written at its front: it comes back before what stood behind it, and that is nothing

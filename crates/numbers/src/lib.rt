@@ -50,9 +50,9 @@ pub fn four_at(b: &[u8], i: usize) -> u32
     requires { ⌜ i + 4 ≤ length (now b) ⌝ }
     ensures { λ r. ⌜ r ≡ uint 4 (now (b .entry)) i ⌝ }
 {
-    let high = byte_at(b, i) * 256 + byte_at(b, i + 1);
-    let low = byte_at(b, i + 2) * 256 + byte_at(b, i + 3);
-    (high * 65536 + low) as u32
+    let two = byte_at(b, i) * 256 + byte_at(b, i + 1);
+    let three = two * 256 + byte_at(b, i + 2);
+    (three * 256 + byte_at(b, i + 3)) as u32
 }
 
 // The whole number that the 64 bits of n are in two's complement.
@@ -91,25 +91,49 @@ pub fn put_four(out: &mut [u8], at: usize, x: u32)
 pub fn digit_count(x: u32) -> usize
     ensures { λ r. ⌜ (r ≡ length (digits x)) × (r ≤ 10) ⌝ }
 {
-    let mut n: usize = 1;
-    let mut y = x;
-    while 10 <= y {
-        y = y / 10;
-        n += 1;
+    if x < 10 {
+        return 1;
     }
-    n
+    if x < 100 {
+        return 2;
+    }
+    if x < 1000 {
+        return 3;
+    }
+    if x < 10000 {
+        return 4;
+    }
+    if x < 100000 {
+        return 5;
+    }
+    if x < 1000000 {
+        return 6;
+    }
+    if x < 10000000 {
+        return 7;
+    }
+    if x < 100000000 {
+        return 8;
+    }
+    if x < 1000000000 {
+        return 9;
+    }
+    10
 }
 
-// The decimal digits of x into the front of `rest`; how many they are.
+// The decimal digits of x into the front of `rest`, the last one first; how many they are.
 pub fn put_digits(rest: &mut [u8], x: u32) -> usize
     requires { ⌜ length (digits x) ≤ length (now rest) ⌝ }
     ensures { λ r. ⌜ (r ≡ length (digits x)) × (now (rest .exit) ≡ spliced (now (rest .entry)) 0 (digits x)) ⌝ }
 {
-    if x < 10 {
-        rest[0] = 48 + (x as u8);
-        return 1;
+    let n = digit_count(x);
+    let mut at = n;
+    let mut y = x;
+    while 1 < at {
+        at -= 1;
+        rest[at] = 48 + ((y % 10) as u8);
+        y = y / 10;
     }
-    let n = put_digits(rest, x / 10);
-    rest[n] = 48 + ((x % 10) as u8);
-    n + 1
+    rest[0] = 48 + (y as u8);
+    n
 }

@@ -19,8 +19,8 @@ use Rattle.matching.proofs.Laws.ReadingOrder.{isLess-order}
 use Rattle.room.specs.Held.{times, Once}
 use Rattle.room.proofs.Order.{times-append}
 use Rattle.rete.specs.Row.{leading, lesser, movedIn, movedOut}
-use Rattle.rete.proofs.Grown.{le-or-lt}
-use Rattle.rete.proofs.SplicedLaws.{length-stretch, stretch-one, stretch-up-to, stretch-rest, spliced-whole}
+use Rattle.weave.proofs.Grown.{le-or-lt}
+use Rattle.weave.proofs.SplicedLaws.{length-stretch, stretch-one, stretch-up-to, stretch-rest, spliced-whole}
 
 -- ---- lists
 

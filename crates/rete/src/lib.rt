@@ -1,9 +1,5 @@
 // One step over the parts of a room that is only read: the tokens after it, worked out aside.
-pub mod blocks;
-pub mod copy;
 pub mod order;
 pub mod row;
 pub mod rules;
 pub mod sift;
-pub mod view;
-pub mod weave;

@@ -6,8 +6,8 @@ ghost use lib.ListN.{length, take};
 ghost use Rattle.reading.specs.Reading.{isLess, readingAt};
 ghost use Rattle.matching.specs.Order.{Less, Sorted};
 ghost use Rattle.rete.specs.Row.{leading, lesser, standsAt, movedIn, movedOut};
-use crate::copy::copy_from;
 use reading::Reading;
+use weave::copy::copy_from;
 
 // How many of the first n slots have a reading that comes before w, found by halving: of slots whose readings ascend. Of any other a place up to n.
 pub fn rank_of(order: &[u8], slots: &[u8], n: usize, w: Reading) -> usize

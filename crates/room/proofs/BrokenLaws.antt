@@ -9,10 +9,10 @@ use native.Mathlib.Numerals.{add-one}
 use native.Mathlib.Omega.{arith}
 use borrow.Author.Tests.{leb-true, leb-false, eqb-true, lt-ltb, le-ltb, le-leb, eq-eqb}
 use lib.Dec.{leb, eqb}
-use lib.ListN.{length, take, getD, length-take, length-drop}
-use lib.Seq.{take-suc, getD-take, length-take-le}
+use lib.ListN.{length, take, drop, getD, length-take, length-drop}
+use lib.Seq.{take-suc, getD-take, getD-drop, length-take-le}
 use Rattle.numbers.specs.BigEndian.{uint}
-use Rattle.numbers.proofs.BigEndian.{uint-ext}
+use Rattle.numbers.proofs.BigEndian.{uint-ext, uint-drop}
 use Rattle.room.specs.Parts.{part, twos}
 use Rattle.room.specs.Layout.{headNumber, limit}
 use Rattle.room.specs.Broken.{every, sum, headFits, tablesFit, broken}
@@ -62,18 +62,18 @@ one-to-six k = (
 )
 
 -- the rule's test of the first n of a table of counts, and of a table of numbers in two bytes
-abbrev pub allOneToSix : ℕ → List ℕ → Bool
+abbrev allOneToSix : ℕ → List ℕ → Bool
 allOneToSix n l = every (λ k. leb 1 k && leb k 6) (take n l)
 
-pub all-one-to-six : (n : ℕ) (l : List ℕ) → n ≤ length l → (allOneToSix n l ≡ true) ↔ ((i : ℕ) → i < n → (1 ≤ getD l i 0) × (getD l i 0 ≤ 6))
+all-one-to-six : (n : ℕ) (l : List ℕ) → n ≤ length l → (allOneToSix n l ≡ true) ↔ ((i : ℕ) → i < n → (1 ≤ getD l i 0) × (getD l i 0 ≤ 6))
 all-one-to-six n l h =
     let each = every-known (λ k. leb 1 k && leb k 6) (take n l) n (λ i. getD l i 0) (length-take-le n l h) (λ i k. getD-take n l i 0 k) in
     (λ t i k. one-to-six _ .0 (each .0 t i k), λ t. each .1 λ i k. one-to-six _ .1 (t i k))
 
-abbrev pub allAtMost : ℕ → ℕ → List ℕ → Bool
+abbrev allAtMost : ℕ → ℕ → List ℕ → Bool
 allAtMost n most l = every (λ e. leb e most) (twos n l)
 
-pub all-at-most : (n most : ℕ) (l : List ℕ) → (allAtMost n most l ≡ true) ↔ ((i : ℕ) → i < n → uint 2 l (i * 2) ≤ most)
+all-at-most : (n most : ℕ) (l : List ℕ) → (allAtMost n most l ≡ true) ↔ ((i : ℕ) → i < n → uint 2 l (i * 2) ≤ most)
 all-at-most n most l =
     let each = every-known (λ e. leb e most) (twos n l) n (λ i. uint 2 l (i * 2)) (length-twos n l) (getD-twos n l) in
     (λ t i k. leb-true _ _ (each .0 t i k), λ t. each .1 λ i k. le-leb _ _ (t i k))
@@ -158,16 +158,83 @@ head-read room =
       λ h. head-fits room .1 (same-head read (headNumber room) (λ k l. sym (headNumber-at room k l)) h),
     )
 
--- ---- the tables of rules, by the numbers as they are read
+-- ---- the tables of rules
 
-pub tables-read : (room : List ℕ) {rules tokens conditions : ℕ} → rules ≡ uint 2 room 10 → tokens ≡ uint 2 room 6 → conditions ≡ uint 2 room 12
-    → tablesFit room
-    ≡ (allOneToSix rules (part room 8656 32)
-    && eqb (sum (take rules (part room 8656 32))) conditions
-    && allAtMost rules tokens (part room 8688 64)
-    && allAtMost rules tokens (part room 8752 64))
-unfolding tablesFit
-tables-read room r t c = simp (headNumber-at room 5 (omega arith), headNumber-at room 3 (omega arith), headNumber-at room 6 (omega arith), r, t, c)
+-- what is asked of them, by the numbers of rules, tokens and conditions
+record Tables (room : List ℕ) (rules tokens conditions : ℕ) : Type 0 where
+  counts : (i : ℕ) → i < rules → (1 ≤ getD (part room 8656 32) i 0) × (getD (part room 8656 32) i 0 ≤ 6)
+  total : sum (take rules (part room 8656 32)) ≡ conditions
+  ends : (i : ℕ) → i < rules → uint 2 (part room 8688 64) (i * 2) ≤ tokens
+  completes : (i : ℕ) → i < rules → uint 2 (part room 8752 64) (i * 2) ≤ tokens
+
+-- the same of one rule, by the numbers as they are read
+pub record RuleFits (room : List ℕ) (tokens i : ℕ) : Type 0 where
+  pub low : 1 ≤ getD room (8656 + i) 0
+  pub high : getD room (8656 + i) 0 ≤ 6
+  pub ends : uint 2 room (8688 + i * 2) ≤ tokens
+  pub completes : uint 2 room (8752 + i * 2) ≤ tokens
+
+module _ (room : List ℕ) where
+  count-at : (i : ℕ) → i < 32 → getD (part room 8656 32) i 0 ≡ getD room (8656 + i) 0
+  count-at i h = getD-take 32 (drop 8656 room) i 0 h ∙ getD-drop 8656 room i 0
+
+  two-of : (a i : ℕ) → i < 32 → uint 2 (part room a 64) (i * 2) ≡ uint 2 room (a + i * 2)
+  two-of a i h =
+      uint-ext 2 (part room a 64) (i * 2) (drop a room) (i * 2) (λ k l. getD-take 64 (drop a room) (i * 2 + k) 0 (omega arith)) ∙ uint-drop 2 a room (i * 2)
+
+  module _ {rules tokens conditions : ℕ} (few : rules ≤ 32) where
+    tables-rules : Tables room rules tokens conditions → ((i : ℕ) → i < rules → RuleFits room tokens i) × (sum (take rules (part room 8656 32)) ≡ conditions)
+    tables-rules h = (
+      λ i l. record {
+        low = rw (count-at i (omega arith)) at (h .counts i l .0);
+        high = rw (count-at i (omega arith)) at (h .counts i l .1);
+        ends = rw (two-of 8688 i (omega arith)) at (h .ends i l);
+        completes = rw (two-of 8752 i (omega arith)) at (h .completes i l);
+      },
+      h .total,
+    )
+
+    rules-tables : ((i : ℕ) → i < rules → RuleFits room tokens i) → sum (take rules (part room 8656 32)) ≡ conditions → Tables room rules tokens conditions
+    rules-tables fits total = record {
+      counts = λ i l. rw (count-at i (omega arith)) (fits i l .low, fits i l .high);
+      total = total;
+      ends = λ i l. rw (two-of 8688 i (omega arith)) (fits i l .ends);
+      completes = λ i l. rw (two-of 8752 i (omega arith)) (fits i l .completes);
+    }
+
+  module _ (large : 18288 ≤ length room) where
+    counts-there : length (part room 8656 32) ≡ 32
+    counts-there = simp (length-take, length-drop) (omega arith)
+
+    -- the conditions of one rule more
+    pub total-more : (i : ℕ) → i < 32 → sum (take (i + 1) (part room 8656 32)) ≡ sum (take i (part room 8656 32)) + getD room (8656 + i) 0
+    total-more i h = omega (arith, sum-take (part room 8656 32) i (omega (arith, counts-there)), count-at i h)
+
+    tables-fit : headNumber room 5 ≤ 32 → (tablesFit room ≡ true) ↔ Tables room (headNumber room 5) (headNumber room 3) (headNumber room 6)
+    unfolding tablesFit
+    tables-fit few =
+        let total = eqb (sum (take (headNumber room 5) (part room 8656 32))) (headNumber room 6) in
+        let counts = all-one-to-six (headNumber room 5) (part room 8656 32) (omega (arith, counts-there)) in
+        let ends = all-at-most (headNumber room 5) (headNumber room 3) (part room 8688 64) in
+        let completes = all-at-most (headNumber room 5) (headNumber room 3) (part room 8752 64) in (
+          λ h. record {
+            counts = counts .0 (asked (allOneToSix (headNumber room 5) (part room 8656 32)) h λ f. simp f);
+            total = eqb-true _ _ (asked total h λ f. simp (f, and-false));
+            ends = ends .0 (asked (allAtMost (headNumber room 5) (headNumber room 3) (part room 8688 64)) h λ f. simp (f, and-false));
+            completes = completes .0 (asked (allAtMost (headNumber room 5) (headNumber room 3) (part room 8752 64)) h λ f. simp (f, and-false));
+          },
+          λ h. simp (counts .1 (h .counts), eq-eqb _ _ (h .total), ends .1 (h .ends), completes .1 (h .completes)),
+        )
+
+    -- rule by rule, by the numbers as they are read
+    pub tables-read : {rules tokens conditions : ℕ} → rules ≡ uint 2 room 10 → tokens ≡ uint 2 room 6 → conditions ≡ uint 2 room 12 → rules ≤ 32
+        → (tablesFit room ≡ true) ↔ (((i : ℕ) → i < rules → RuleFits room tokens i) × (sum (take rules (part room 8656 32)) ≡ conditions))
+    tables-read {rules} {tokens} {conditions} r t c few =
+        let r' : rules ≡ headNumber room 5 = r ∙ sym (headNumber-at room 5 (omega arith)) in
+        let t' : tokens ≡ headNumber room 3 = t ∙ sym (headNumber-at room 3 (omega arith)) in
+        let c' : conditions ≡ headNumber room 6 = c ∙ sym (headNumber-at room 6 (omega arith)) in
+        let fit : (tablesFit room ≡ true) ↔ Tables room rules tokens conditions = rw (r', t', c') (tables-fit (omega arith)) in
+        (λ h. tables-rules few (fit .0 h), λ h. fit .1 (rules-tables few (h .0) (h .1)))
 
 -- ---- a room that is not broken
 
@@ -189,31 +256,31 @@ pub record Whole (room : List ℕ) : Type 0 where
   pub completes : (i : ℕ) → i < headNumber room 5 → uint 2 (part room 8752 64) (i * 2) ≤ headNumber room 3
 
 module _ (room : List ℕ) where
-  counts-there : 18288 ≤ length room → headNumber room 5 ≤ 32 → headNumber room 5 ≤ length (part room 8656 32)
-  counts-there large rules = simp (length-take, length-drop) (omega arith)
-
   pub whole-not-broken : Whole room → broken room ≡ false
-  unfolding tablesFit broken
+  unfolding broken
   whole-not-broken w =
+      let tables : Tables room (headNumber room 5) (headNumber room 3) (headNumber room 6) = record {
+        counts = w .counts;
+        total = w .total;
+        ends = w .ends;
+        completes = w .completes;
+      } in
       simp (
         le-ltb (length room) 16 (omega arith),
         head-fits room .1 (omega arith),
         le-ltb _ _ (w .large),
-        all-one-to-six _ (part room 8656 32) (counts-there (omega arith) (w .rules)) .1 (w .counts),
-        eq-eqb _ _ (w .total),
-        all-at-most _ _ (part room 8688 64) .1 (w .ends),
-        all-at-most _ _ (part room 8752 64) .1 (w .completes),
+        tables-fit room (omega arith) (w .rules) .1 tables,
       )
 
   pub not-broken-whole : broken room ≡ false → Whole room
-  unfolding tablesFit broken
+  unfolding broken
   not-broken-whole h =
       let whole : not (broken room) ≡ true = ap not h in
       let large : 18288 + limit room * 2 ≤ length room =
       asked-le (18288 + limit room * 2) (length room) whole λ f. simp (lt-ltb (length room) (18288 + limit room * 2) (leb-false _ _ f), or-true) in
       let head : Head (headNumber room) = head-fits room .0 (asked (headFits room) whole λ f. simp (f, or-true)) in
-      let tables : tablesFit room ≡ true = asked (tablesFit room) whole λ f. simp (f, or-true) in
-      let total = eqb (sum (take (headNumber room 5) (part room 8656 32))) (headNumber room 6) in
+      let tables : Tables room (headNumber room 5) (headNumber room 3) (headNumber room 6) =
+      tables-fit room (omega arith) (head .rules) .0 (asked (tablesFit room) whole λ f. simp (f, or-true)) in
       record {
         large = large;
         E-low = head .E-low;
@@ -226,8 +293,8 @@ module _ (room : List ℕ) where
         rules = head .rules;
         conditions = head .conditions;
         zero = head .zero;
-        counts = all-one-to-six _ (part room 8656 32) (counts-there (omega arith) (head .rules)) .0 (asked (allOneToSix (headNumber room 5) (part room 8656 32)) tables λ f. simp f);
-        total = eqb-true _ _ (asked total tables λ f. simp (f, and-false));
-        ends = all-at-most _ _ (part room 8688 64) .0 (asked (allAtMost (headNumber room 5) (headNumber room 3) (part room 8688 64)) tables λ f. simp (f, and-false));
-        completes = all-at-most _ _ (part room 8752 64) .0 (asked (allAtMost (headNumber room 5) (headNumber room 3) (part room 8752 64)) tables λ f. simp (f, and-false));
+        counts = tables .counts;
+        total = tables .total;
+        ends = tables .ends;
+        completes = tables .completes;
       }

@@ -1,15 +1,11 @@
 // The rule behind refusal 10, over the bytes of a room. It stands before every call, so it looks at no token.
 ghost use mathlib.Core.Path.{_≡_};
-ghost use mathlib.Core.Bool.{not, _&&_};
-ghost use Prim.Native.Nat.{_+_, _*_, _≤_, _<_};
-ghost use lib.Dec.{leb};
-ghost use lib.ListN.{length, take};
+ghost use Prim.Native.Nat.{_≤_};
+ghost use lib.ListN.{length};
 ghost use Rattle.numbers.specs.BigEndian.{uint};
-ghost use Rattle.room.specs.Parts.{twos};
-ghost use Rattle.room.specs.Broken.{every, sum, headFits, tablesFit, broken};
+ghost use Rattle.room.specs.Broken.{headFits, tablesFit, broken};
 use crate::layout::COMPLETES;
 use crate::layout::ENDS;
-use crate::layout::ORDER;
 use crate::layout::RULE_CONDITIONS;
 
 // Whether the numbers of the header are in their ranges.
@@ -49,54 +45,6 @@ fn head_fits(room: &[u8]) -> bool
     numbers::two_at(room, 14) == 0
 }
 
-// Whether each of the first n numbers is 1 to 6.
-fn all_one_to_six(counts: &[u8], n: usize) -> bool
-    requires { ⌜ n ≤ length (now counts) ⌝ }
-    ensures { λ r. ⌜ r ≡ every (λ k. leb 1 k && leb k 6) (take n (now (counts .entry))) ⌝ }
-{
-    let mut i: usize = 0;
-    while i < n {
-        let k = counts[i];
-        if k < 1 {
-            return false;
-        }
-        if 6 < k {
-            return false;
-        }
-        i += 1;
-    }
-    true
-}
-
-// The sum of the first n numbers.
-fn sum_of(counts: &[u8], n: usize) -> usize
-    requires { ⌜ (n ≤ length (now counts)) × (n ≤ 32) ⌝ }
-    ensures { λ r. ⌜ r ≡ sum (take n (now (counts .entry))) ⌝ }
-{
-    let mut total: usize = 0;
-    let mut i: usize = 0;
-    while i < n {
-        total += counts[i] as usize;
-        i += 1;
-    }
-    total
-}
-
-// Whether each of the first n numbers of two bytes is at most `most`.
-fn all_at_most(table: &[u8], n: usize, most: usize) -> bool
-    requires { ⌜ (n * 2 ≤ length (now table)) × (n ≤ 32) ⌝ }
-    ensures { λ r. ⌜ r ≡ every (λ e. leb e most) (twos n (now (table .entry))) ⌝ }
-{
-    let mut i: usize = 0;
-    while i < n {
-        if most < numbers::two_at(table, i * 2) {
-            return false;
-        }
-        i += 1;
-    }
-    true
-}
-
 // Whether the tables of rules are in their ranges.
 fn tables_fit(room: &[u8]) -> bool
     requires { ⌜ (18288 ≤ length (now room)) × (uint 2 (now room) 10 ≤ 32) ⌝ }
@@ -104,16 +52,26 @@ fn tables_fit(room: &[u8]) -> bool
 {
     let rules = numbers::two_at(room, 10);
     let tokens = numbers::two_at(room, 6);
-    if !all_one_to_six(&room[RULE_CONDITIONS..ENDS], rules) {
-        return false;
+    let mut total: usize = 0;
+    let mut i: usize = 0;
+    while i < rules {
+        let k = room[RULE_CONDITIONS + i] as usize;
+        if k < 1 {
+            return false;
+        }
+        if 6 < k {
+            return false;
+        }
+        if tokens < numbers::two_at(room, ENDS + i * 2) {
+            return false;
+        }
+        if tokens < numbers::two_at(room, COMPLETES + i * 2) {
+            return false;
+        }
+        total += k;
+        i += 1;
     }
-    if sum_of(&room[RULE_CONDITIONS..ENDS], rules) != numbers::two_at(room, 12) {
-        return false;
-    }
-    if !all_at_most(&room[ENDS..COMPLETES], rules, tokens) {
-        return false;
-    }
-    all_at_most(&room[COMPLETES..ORDER], rules, tokens)
+    total == numbers::two_at(room, 12)
 }
 
 // Whether a room is broken: shorter than the formula for its stored limits, or a stored limit, count or link outside its range.

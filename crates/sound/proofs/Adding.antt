@@ -15,7 +15,7 @@ use Rattle.book.proofs.Limits.{conditionCount-kept}
 use Rattle.reading.specs.declared.Reading.{Reading}
 use Rattle.reading.specs.Reading.{isLess, readingAt}
 use Rattle.matching.specs.Complaints.{bookCount}
-use Rattle.matching.specs.Order.{inserted}
+use Rattle.matching.specs.Order.{Less, Sorted, inserted}
 use Rattle.matching.specs.Step.{present}
 use Rattle.matching.proofs.Laws.Members.{mem-same}
 use Rattle.matching.proofs.Laws.Orders.{inserted-sorted}
@@ -28,8 +28,8 @@ use Rattle.room.proofs.BrokenLaws.{Whole, not-broken-whole}
 use Rattle.room.proofs.Put.{length-part}
 use Rattle.rete.specs.Row.{RowOf, bookFlags, lesser, movedIn}
 use Rattle.rete.specs.Rules.{rulesBuilt, Stretches, Told}
-use Rattle.rete.specs.View.{readOf, bitOf, passOf, read, pass}
-use Rattle.rete.specs.Weave.{before, Woven}
+use Rattle.weave.specs.View.{readOf, bitOf, passOf, read, pass}
+use Rattle.weave.specs.Weave.{before, Woven}
 use Rattle.rete.proofs.OrderLaws.{leading-within, take-movedIn, once-movedIn}
 use Rattle.step.specs.Worked.{bookIn, countsIn, endsIn, slotIn, viewIn, seenIn, AddedAt}
 use Rattle.checking.proofs.Extent.{told-ext}
@@ -115,6 +115,10 @@ module _ (room : List ℕ) (s : Sound room) (w : Reading) (new : present (stateO
       (λ i. ⊎-elim (λ (e : t ≡ slotIn room (headNumber room 2)). inl (List·Memᴰ·head e)) (λ j. inr (late-in t j)) (List·Memᴰ·cases-cons i))
       (List·Memᴰ·append-cases (early room w) m)
 
+  -- the readings with w ascend
+  ascending-with : Sorted (Less isLess) (inserted isLess w (held room .readings))
+  ascending-with = inserted-sorted isLess w isLess-order (s .ascending) λ m. false≢true (sym new ∙ mem-same isSame-exact w (held room .readings) .1 m)
+
   conditions-few : conditionCount (s .rules) ≤ 192
   conditions-few = conditionCount-kept (s .rules) (sound-kept room s)
 
@@ -123,15 +127,6 @@ module _ (room : List ℕ) (s : Sound room) (w : Reading) (new : present (stateO
   module _ (row : List ℕ) where
     read-in-use : (t : ℕ) → List·Memᴰ t (slotsOf room) → readIn room t ≡ readOf (slotsPart (parts room)) (viewIn room w) t
     read-in-use = seen-read (bookIn room) (conditionPlacesPart (parts room)) (slotsPart (parts room)) (rowsPart (parts room)) row (viewIn room w) (slotsOf room) slot-new
-
-    order-woven : Woven (seenIn room row w) (orderWith room w) (early room w) (late room w)
-    unfolding before
-    order-woven =
-        record {
-          whole = refl;
-          low = λ t m. rw (← read-in-use t (early-in t m)) (rank-low room s w (readIn room t) (Memᴰ·map (readIn room) m));
-          high = λ t m. rw (← read-in-use t (late-in t m)) (rank-high room s w (readIn room t) (Memᴰ·map (readIn room) m));
-        }
 
     -- the readings that the step sees in order are those present with w
     order-reads : map (readOf (slotsPart (parts room)) (viewIn room w)) (orderWith room w) ≡ inserted isLess w (held room .readings)
@@ -143,6 +138,16 @@ module _ (room : List ℕ) (s : Sound room) (w : Reading) (new : present (stateO
         ∙ ap₂ _++_ (map-ext sees (readIn room) (early room w) (λ t m. sym (read-in-use t (early-in t m))))
         (ap₂ _∷_ own (map-ext sees (readIn room) (late room w) (λ t m. sym (read-in-use t (late-in t m)))))
         ∙ sym (rank-inserted room s w)
+
+    order-woven : Woven (seenIn room row w) (orderWith room w) (early room w) (late room w)
+    unfolding before
+    order-woven =
+        record {
+          ascends = rw order-reads ascending-with;
+          whole = refl;
+          low = λ t m. rw (← read-in-use t (early-in t m)) (rank-low room s w (readIn room t) (Memᴰ·map (readIn room) m));
+          high = λ t m. rw (← read-in-use t (late-in t m)) (rank-high room s w (readIn room t) (Memᴰ·map (readIn room) m));
+        }
 
     old-stretches : Stretches (nodesPart (parts room)) (lastsPart (parts room)) (early room w ++ late room w) (read (seenIn room row w)) (pass (seenIn room row w)) 0 0
         (endsIn room) (countsIn room)
@@ -209,7 +214,6 @@ module _ (room : List ℕ) (s : Sound room) (w : Reading) (new : present (stateO
           let rows : List ℕ = rowsWith (parts room) (slotIn room (headNumber room 2)) row in
           let sees : ℕ → Reading = readOf (slotsPart (parts room)) (viewIn room w) in
           let is : slotsNext (added .aside) ≡ orderWith room w = ap (λ (n : ℕ). take n (added .aside .order)) (added .readings-are) ∙ order-next in
-          let absent : List·Memᴰ w (held room .readings) → ⊥ = λ m. false≢true (sym new ∙ mem-same isSame-exact w (held room .readings) .1 m) in
           let total : sum (countsOf room s) ≤ 192 = omega (arith, sum-counts (s .rules), conditions-few) in
           let bits : Bits (orderWith room w) (readingAt slots) (inMemory rows) 0 (s .rules) =
           bits-ext (orderWith room w) sees (readingAt slots) (bitOf (rowsPart (parts room)) row (viewIn room w)) (inMemory rows) 192 (λ t m. next-read t) (λ c t h m. next-bit c t h)
@@ -219,7 +223,7 @@ module _ (room : List ℕ) (s : Sound room) (w : Reading) (new : present (stateO
             once = rw moved-in (once-movedIn (orderPart (parts room)) (rankIn room w) (headNumber room 2) rank-within free-within (s .arranged .once));
             few = omega (arith, added .readings-are);
             reads = ap (map (readingAt slots)) is ∙ map-ext (readingAt slots) sees (orderWith room w) (λ t m. sym (next-read t)) ∙ order-reads row;
-            ascending = inserted-sorted isLess w isLess-order (s .ascending) absent;
+            ascending = ascending-with;
             bits = rw is bits;
             fits = few;
             told = rw (is, added .tokens-are)

@@ -17,7 +17,7 @@ use Rattle.matching.specs.Complaints.{levels, testsOf, passOf, memory, memories
 use Rattle.matching.proofs.Laws.Alpha.{passesAll-split, getD-memoriesFrom}
 use Rattle.room.specs.Held.{sifted}
 use Rattle.room.specs.Parts.{below}
-use Rattle.rete.proofs.Grown.{le-or-lt}
+use Rattle.weave.proofs.Grown.{le-or-lt}
 use Rattle.sound.proofs.Entries.{Entries, entries-left, entries-right, entries-append, map-entries}
 use Rattle.sound.proofs.Slots.{Distinct, sifted-keep, keep-sifted}
 use Rattle.sound.proofs.TokensBuilt.{Agrees}

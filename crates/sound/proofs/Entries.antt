@@ -9,7 +9,7 @@ use lib.ListN.{length, getD, length-append, length-map, List·getD-append}
 use lib.Seq.{ext-getD, getD-at, getD-append-add}
 use Rattle.room.specs.Parts.{below}
 use Rattle.room.proofs.Order.{length-below}
-use Rattle.rete.proofs.Grown.{le-or-lt}
+use Rattle.weave.proofs.Grown.{le-or-lt}
 
 pub getD-map : {A B : Type 0} (f : A → B) (l : List A) (k : ℕ) (d : A) (e : B) → k < length l → getD (map f l) k e ≡ f (getD l k d)
 getD-map f [] k d e h = absurd (omega arith)

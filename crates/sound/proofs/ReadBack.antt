@@ -18,9 +18,9 @@ use Rattle.reading.specs.declared.Reading.{Reading}
 use Rattle.reading.specs.Reading.{readingAt, readingBytes}
 use Rattle.reading.proofs.Bytes.{length-readingBytes, readingBytes-spliced}
 use Rattle.room.specs.Held.{inMemory}
-use Rattle.rete.specs.declared.view.View.{View}
-use Rattle.rete.specs.View.{readOf, bitOf}
-use Rattle.rete.proofs.Grown.{le-or-lt}
+use Rattle.weave.specs.declared.view.View.{View}
+use Rattle.weave.specs.View.{readOf, bitOf}
+use Rattle.weave.proofs.Grown.{le-or-lt}
 
 -- four bytes hold each number of a reading
 pub record Fits (r : Reading) : Type 0 where

@@ -25,7 +25,7 @@ use Rattle.room.proofs.BrokenLaws.{Whole, not-broken-whole, whole-not-broken}
 use Rattle.room.proofs.Put.{length-part}
 use Rattle.room.proofs.TwosRead.{length-twos, getD-twos}
 use Rattle.room.proofs.Written.{counted-readings, counted-tokens, counted-before, counted-after, parts-written}
-use Rattle.rete.specs.Built.{nodes, lasts}
+use Rattle.weave.specs.Built.{nodes, lasts}
 use Rattle.rete.specs.Rules.{rulesBuilt}
 use Rattle.sound.specs.Sound.{Sound, heldOf, tokensHeld, endsOf, completesOf}
 use Rattle.sound.proofs.Agree.{passSlot, bits-agree}

@@ -27,7 +27,7 @@ use Rattle.room.proofs.Order.{length-below}
 use Rattle.room.proofs.Put.{length-part}
 use Rattle.room.proofs.TwosRead.{length-twos, getD-twos}
 use Rattle.rete.specs.Rules.{rulesBuilt, endsBuilt, completesBuilt, Stretches}
-use Rattle.rete.proofs.Planes.{length-stored}
+use Rattle.weave.proofs.Planes.{length-stored}
 use Rattle.step.specs.Worked.{bookIn}
 use Rattle.sound.specs.Sound.{Sound, heldOf, tokensHeld}
 use Rattle.sound.proofs.Agree.{memoryAt, passSlot, Bits, memories-bits, bits-agree}

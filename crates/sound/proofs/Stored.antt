@@ -6,7 +6,7 @@ use mathlib.Core.List.{List·Memᴰ, List·Memᴰ·head, List·Memᴰ·tail}
 use lib.ListN.{length, take}
 use Rattle.reading.specs.declared.Reading.{Reading}
 use Rattle.room.specs.Held.{Stored, Token, tokensFrom}
-use Rattle.rete.specs.Built.{token, nodes}
+use Rattle.weave.specs.Built.{token, nodes}
 use Rattle.sound.proofs.Slots.{Distinct}
 
 -- all the tokens end in slots of os

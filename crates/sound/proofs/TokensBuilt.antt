@@ -22,8 +22,9 @@ use Rattle.matching.proofs.Laws.Members.{mem-when, mem-concatMap, mem-forest}
 use Rattle.matching.proofs.Laws.Tokens.{length-ruleTokens, ruleTokens-complaints}
 use Rattle.room.specs.Held.{Stored, tokensFrom}
 use Rattle.room.proofs.BrokenLaws.{agreed}
-use Rattle.rete.specs.Built.{built, stem, branch, nodes}
-use Rattle.rete.specs.Rules.{timesOf, rulesBuilt, endsBuilt, completesBuilt, completeBuilt}
+use Rattle.weave.specs.Built.{built, stem, branch, nodes}
+use Rattle.weave.specs.Blocks.{timesOf}
+use Rattle.rete.specs.Rules.{rulesBuilt, endsBuilt, completesBuilt, completeBuilt}
 use Rattle.rete.proofs.Decode.{decoded, Reads, reads-built, atNode, decoded-forest}
 use Rattle.checking.proofs.Extent.{built-ext}
 use Rattle.sound.specs.Sound.{ruleHeld, tokensHeld, endsOf, completesOf}

@@ -21,10 +21,10 @@ use Rattle.matching.specs.Passes.{alpha}
 use Rattle.matching.specs.Complaints.{levels, testsOf}
 use Rattle.room.specs.Broken.{sum}
 use Rattle.room.specs.Held.{inMemory}
-use Rattle.rete.specs.declared.view.View.{View}
+use Rattle.weave.specs.declared.view.View.{View}
 use Rattle.rete.specs.Row.{flag, flagsFrom, bookFlags, RowOf}
 use Rattle.rete.specs.Rules.{Stretches}
-use Rattle.rete.specs.View.{readOf, bitOf, passOf, seen, read, pass}
+use Rattle.weave.specs.View.{readOf, bitOf, passOf, seen, read, pass}
 use Rattle.checking.proofs.Extent.{stretches-ext}
 use Rattle.sound.proofs.Agree.{passSlot, Bits, bits-either, bits-ext, bits-agree}
 use Rattle.sound.proofs.Entries.{Entries, entries-left, entries-right}

@@ -16,9 +16,9 @@ use Rattle.room.specs.Written.{Aside, stepped, slotsWith, rowsWith, Stepping}
 use Rattle.room.proofs.BrokenLaws.{Whole, headNumber-at, not-broken-whole}
 use Rattle.room.proofs.Large.{large-part}
 use Rattle.room.proofs.Put.{length-part}
-use Rattle.rete.specs.View.{seen}
+use Rattle.weave.specs.View.{seen}
 use Rattle.rete.specs.Row.{RowOf, bookFlags, movedIn, movedOut}
-use Rattle.rete.specs.Weave.{Lent}
+use Rattle.weave.specs.Weave.{Lent}
 use Rattle.rete.specs.Rules.{Weaves, SiftsAll, Tables}
 use Rattle.step.specs.Worked.{bookIn, slotIn, AddedAt, RemovedAt}
 

@@ -1,126 +1,149 @@
--- `room::broken::tables_fit` meets its contract: it asks the four tests of the rule in their order, of the same parts, by numbers of the header as they are read.
--- Assumes nothing.
-use mathlib.Core.Bool.{and-false}
-use mathlib.Core.Path.{refl, sym, _∙_}
+-- `room::broken::tables_fit` meets its contract. The loop's invariant: the first i rules fit, and `total` is the sum of their conditions, so at most 6 for each.
+-- The measure is how many rules are left. Assumes nothing.
+use Prim.Native.Nat.{ℕ, _+_, _-_, _*_, _≤_, _<_}
+use mathlib.Core.Path.{_≡_, refl, sym, _∙_}
+use mathlib.Core.Bool.{true, false}
+use mathlib.Core.Logic.{_↔_}
+use mathlib.Mathlib.Data.Bool.Basic.{eq-false-of-not-eq-true}
 use native.Mathlib.Omega.{arith}
+use borrow.Author.Count.{below-none, below-more}
 use borrow.Author.Needs.{needs}
-use borrow.Author.Tests.{not-true, not-false, eq-eqb, ne-eqb}
-use lib.ListN.{length-take, length-drop}
-use Rattle.room.proofs.BrokenLaws.{tables-read}
+use borrow.Author.Tests.{eqb-true, eq-eqb}
+use lib.ListN.{take}
+use Rattle.numbers.specs.BigEndian.{uint}
+use Rattle.room.specs.Parts.{part}
+use Rattle.room.specs.Broken.{sum, tablesFit}
+use Rattle.room.proofs.BrokenLaws.{agreed, RuleFits, total-more, tables-read}
 use Rattle.room.proofs.broken.tables_fit.Statement.{statement}
 use Rattle.room.proofs.broken.tables_fit.Tie as tie
 
-two-at-requires : tie.Need-two-at-requires
+abbrev Inv-loop : tie.InvT-loop
+Inv-loop room rules tokens total₀ i₀ total i =
+    (i ≤ rules) × ((total ≡ sum (take i (part room 8656 32))) × ((total ≤ i * 6) × ((k : ℕ) → k < i → RuleFits room tokens k)))
+
+abbrev μ-loop : tie.MeasureT-loop
+μ-loop room rules tokens total₀ i₀ total i = rules - i
+
+two-at-requires : tie.Need-two-at-requires Inv-loop μ-loop
 two-at-requires c κs = search needs
 
-two-at-requires-2 : tie.Need-two-at-requires-2
+two-at-requires-2 : tie.Need-two-at-requires-2 Inv-loop μ-loop
 two-at-requires-2 c κs = search needs
 
-sub-all-one-to-six : tie.Need-sub-all-one-to-six
-sub-all-one-to-six c = search needs
+loop-holds : tie.Need-loop-holds Inv-loop μ-loop
+unfolding sum
+loop-holds c = (omega arith, (refl, (omega arith, below-none _)))
 
-part-all-one-to-six-start : tie.Need-part-all-one-to-six-start
-part-all-one-to-six-start c = search needs
+add-k : tie.Need-add-k Inv-loop μ-loop
+add-k c = search needs
 
-part-all-one-to-six-end : tie.Need-part-all-one-to-six-end
-part-all-one-to-six-end c = search needs
+shared-slice-read-k : tie.Need-shared-slice-read-k Inv-loop μ-loop
+shared-slice-read-k c = search needs
 
-all-one-to-six-requires : tie.Need-all-one-to-six-requires
-all-one-to-six-requires c κs = search needs
+cast-k : tie.Need-cast-k Inv-loop μ-loop
+cast-k c = omega (arith, c .shared-slice-known2 .given (8656 + c .before .before .loop .i))
 
-returns : tie.Need-returns
-returns c =
-    let r = c .before .before .before in
-    let counts = sym (c .before .all-one-to-six .ensures) ∙ not-true _ (c .if1 .taken) in
-    sym (tables-read _ (r .before .two-at .ensures .0) (r .two-at2 .ensures .0) refl ∙ simp counts)
+-- the tables, rule by rule, by the numbers that are read before the loop
+read : (c : tie.At-loop Inv-loop μ-loop) (conditions : ℕ) →
+    let room = c .before .before .before .before .args .room .now in
+    let rules = c .before .before .two-at .result in
+    conditions ≡ uint 2 room 12
+    → (tablesFit room ≡ true) ↔ (((i : ℕ) → i < rules → RuleFits room (c .before .two-at2 .result) i) × (sum (take rules (part room 8656 32)) ≡ conditions))
+read c conditions e = tables-read _ (omega arith) (c .before .before .two-at .ensures .0) (c .before .two-at2 .ensures .0) e (omega arith)
 
-sub-sum-of : tie.Need-sub-sum-of
-sub-sum-of c = search needs
+-- the rule at `i` is one of them
+unfit : (c : tie.In-loop Inv-loop μ-loop) →
+    let a = c .before in
+    let room = a .before .before .before .before .args .room .now in
+    (RuleFits room (a .before .two-at2 .result) (a .loop .i) → ⊥) → false ≡ tablesFit room
+unfit c outside = sym (eq-false-of-not-eq-true λ t. outside (read (c .before) _ refl .0 t .0 (c .before .loop .i) (c .loop-test .taken)))
 
-part-sum-of-start : tie.Need-part-sum-of-start
-part-sum-of-start c = search needs
+returns : tie.Need-returns Inv-loop μ-loop
+returns c = unfit (c .before .before) λ h. omega arith
 
-part-sum-of-end : tie.Need-part-sum-of-end
-part-sum-of-end c = search needs
+returns-2 : tie.Need-returns-2 Inv-loop μ-loop
+returns-2 c = unfit (c .before .before .before) λ h. omega arith
 
-sum-of-requires : tie.Need-sum-of-requires
-sum-of-requires c κs = simp (length-take, length-drop) (omega (arith, c .before .before .before .before .before))
+mul-two-at : tie.Need-mul-two-at Inv-loop μ-loop
+mul-two-at c = search needs
 
-two-at-requires-3 : tie.Need-two-at-requires-3
+add-two-at : tie.Need-add-two-at Inv-loop μ-loop
+add-two-at c = search needs
+
+two-at-requires-3 : tie.Need-two-at-requires-3 Inv-loop μ-loop
 two-at-requires-3 c κs = search needs
 
-returns-2 : tie.Need-returns-2
-returns-2 c =
-    let r = c .before .before .before .before .before .before .before in
-    let total = ne-eqb _ _ λ q. c .if2 .taken (c .before .before .sum-of .ensures ∙ q) in
-    sym (tables-read _ (r .before .two-at .ensures .0) (r .two-at2 .ensures .0) (c .before .two-at3 .ensures .0) ∙ simp (total, and-false))
+returns-3 : tie.Need-returns-3 Inv-loop μ-loop
+returns-3 c = unfit (c .before .before .before .before .before) λ h. omega arith
 
-sub-all-at-most : tie.Need-sub-all-at-most
-sub-all-at-most c = search needs
+mul-two-at-2 : tie.Need-mul-two-at-2 Inv-loop μ-loop
+mul-two-at-2 c = search needs
 
-part-all-at-most-start : tie.Need-part-all-at-most-start
-part-all-at-most-start c = search needs
+add-two-at-2 : tie.Need-add-two-at-2 Inv-loop μ-loop
+add-two-at-2 c = search needs
 
-part-all-at-most-end : tie.Need-part-all-at-most-end
-part-all-at-most-end c = search needs
+two-at-requires-4 : tie.Need-two-at-requires-4 Inv-loop μ-loop
+two-at-requires-4 c κs = search needs
 
-all-at-most-requires : tie.Need-all-at-most-requires
-all-at-most-requires c κs = simp (length-take, length-drop) (omega (arith, c .before .before .before .before .before .before .before .before .before))
+returns-4 : tie.Need-returns-4 Inv-loop μ-loop
+returns-4 c = unfit (c .before .before .before .before .before .before .before) λ h. omega arith
 
-returns-3 : tie.Need-returns-3
-returns-3 c =
-    let r = c .before .before .before .before .before .before .before .before .before .before in
-    let ends = sym (c .before .all-at-most .ensures) ∙ not-true _ (c .if3 .taken) in
-    sym (tables-read _ (r .before .two-at .ensures .0) (r .two-at2 .ensures .0) refl ∙ simp (ends, and-false))
+add-total : tie.Need-add-total Inv-loop μ-loop
+add-total c = search needs
 
-sub-all-at-most-2 : tie.Need-sub-all-at-most-2
-sub-all-at-most-2 c = search needs
+add-i : tie.Need-add-i Inv-loop μ-loop
+add-i c = search needs
 
-part-all-at-most-start-2 : tie.Need-part-all-at-most-start-2
-part-all-at-most-start-2 c = search needs
+loop-less : tie.Need-loop-less Inv-loop μ-loop
+loop-less c = search needs
 
-part-all-at-most-end-2 : tie.Need-part-all-at-most-end-2
-part-all-at-most-end-2 c = omega (arith, c .before .before .before .before .before .before .before .before .before .before .before)
+loop-again : tie.Need-loop-again Inv-loop μ-loop
+loop-again c =
+    let a = c .before .before .before .before .before .before .before .before in
+    let room = a .before .before .before .before .args .room .now in
+    let i = a .loop .i in
+    let here : RuleFits room (a .before .two-at2 .result) i = omega arith in
+    (omega arith, (omega (arith, total-more room (omega arith) i (omega arith)), (omega arith, below-more _ _ (a .loop .inv .1 .1 .1) here)))
 
-all-at-most-requires-2 : tie.Need-all-at-most-requires-2
-all-at-most-requires-2 c κs = simp (length-take, length-drop) (omega (arith, c .before .before .before .before .before .before .before .before .before .before .before .before))
+two-at-requires-5 : tie.Need-two-at-requires-5 Inv-loop μ-loop
+two-at-requires-5 c κs = search needs
 
-returns-4 : tie.Need-returns-4
-returns-4 c =
-    let x = c .before .before .before in
-    let y = x .before .before .before in
-    let z = y .before .before .before in
-    let r = z .before .before .before in
-    let counts = sym (z .before .all-one-to-six .ensures) ∙ not-false _ (z .if1 .left) in
-    let total = eq-eqb _ _ (sym (y .before .sum-of .ensures) ∙ x .before .before .if2 .left) in
-    let ends = sym (x .all-at-most .ensures) ∙ not-false _ (c .before .before .if3 .left) in
-    c .all-at-most2 .ensures
-    ∙ sym (tables-read _ (r .before .two-at .ensures .0) (r .two-at2 .ensures .0) (y .two-at3 .ensures .0) ∙ simp (counts, total, ends))
+returns-5 : tie.Need-returns-5 Inv-loop μ-loop
+returns-5 c =
+    let l = c .before .before .loop in
+    let all = read (c .before .before) (c .two-at5 .result) (c .two-at5 .ensures .0) in
+    let e : l .i ≡ c .before .before .before .before .two-at .result = omega arith in
+    let total = rw e at (l .inv .1 .0) in
+    agreed _ _ (
+      λ t. all .1 (λ k h. l .inv .1 .1 .1 k (omega arith), sym total ∙ eqb-true _ _ t),
+      λ t. eq-eqb _ _ (total ∙ all .0 t .1),
+    )
 
 pub tables-fit-spec : {M : Type 1} → statement M
 tables-fit-spec =
     tie.close
     (tie.spec
+    Inv-loop
+    μ-loop
     two-at-requires
     two-at-requires-2
-    sub-all-one-to-six
-    part-all-one-to-six-start
-    part-all-one-to-six-end
-    all-one-to-six-requires
+    loop-holds
+    add-k
+    shared-slice-read-k
+    cast-k
     returns
-    sub-sum-of
-    part-sum-of-start
-    part-sum-of-end
-    sum-of-requires
-    two-at-requires-3
     returns-2
-    sub-all-at-most
-    part-all-at-most-start
-    part-all-at-most-end
-    all-at-most-requires
+    mul-two-at
+    add-two-at
+    two-at-requires-3
     returns-3
-    sub-all-at-most-2
-    part-all-at-most-start-2
-    part-all-at-most-end-2
-    all-at-most-requires-2
-    returns-4)
+    mul-two-at-2
+    add-two-at-2
+    two-at-requires-4
+    returns-4
+    add-total
+    add-i
+    loop-less
+    loop-again
+    two-at-requires-5
+    returns-5)

@@ -1,0 +1,14 @@
+pub mod BuiltLaws
+pub mod CountLaws
+pub mod Grown
+pub mod LentLaws
+pub mod OldLaws
+pub mod Planes
+pub mod Settled
+pub mod SplicedLaws
+pub mod ViewLaws
+pub mod Written
+pub mod NearLaws
+pub mod Reach
+pub mod Seeking
+pub mod Leaves

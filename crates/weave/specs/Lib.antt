@@ -1,0 +1,5 @@
+pub mod View
+pub mod Built
+pub mod Weave
+pub mod Blocks
+pub mod Near
