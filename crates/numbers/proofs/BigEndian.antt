@@ -3,7 +3,7 @@
 use Prim.Native.Nat.{ℕ, zero, suc, _+_, _*_, _/_, _%_, _^_, _≤_, _<_}
 use mathlib.Core.Path.{_≡_, refl, sym, ap, _∙_}
 use mathlib.Core.List.{List, [], _∷_, _++_, append-nil}
-use native.Mathlib.Nat.{add-zero, pow-suc, pow-le-pow-right, div-add-mod'}
+use native.Mathlib.Nat.{add-zero, add-suc, mul-assoc, pow-suc, pow-le-pow-right, div-add-mod'}
 use native.Mathlib.Numerals.{add-one}
 use native.Mathlib.Omega.{arith}
 use lib.ListN.{length, drop, getD, length-append}
@@ -46,6 +46,16 @@ uint-ext (suc n) b i b' i' same =
 
 pub uint-drop : (n a : ℕ) (b : List ℕ) (i : ℕ) → uint n (drop a b) i ≡ uint n b (a + i)
 uint-drop n a b i = uint-ext n (drop a b) i b (a + i) λ k l. getD-drop a b (i + k) 0 ∙ ap (λ (j : ℕ). getD b j 0) (omega arith)
+
+-- m bytes and n more: the number of the first, moved up by n bytes, and that of the others
+pub uint-then : (m n : ℕ) (b : List ℕ) (i : ℕ) → uint (m + n) b i ≡ uint m b i * 256 ^ n + uint n b (i + m)
+unfolding uint
+uint-then m zero b i = rw (add-zero m) (omega arith)
+uint-then m (suc n) b i =
+    let before : uint (m + n) b i ≡ uint m b i * 256 ^ n + uint n b (i + m) = uint-then m n b i in
+    let high : uint m b i * (256 ^ n * 256) ≡ uint m b i * 256 ^ n * 256 = sym (mul-assoc (uint m b i) (256 ^ n) 256) in
+    let place : i + (m + n) ≡ i + m + n = omega arith in
+    rw (add-suc m n, before, place, pow-suc, high) (omega arith)
 
 -- ---- a number written and read back
 

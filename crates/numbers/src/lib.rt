@@ -55,6 +55,14 @@ pub fn four_at(b: &[u8], i: usize) -> u32
     (three * 256 + byte_at(b, i + 3)) as u32
 }
 
+// The same of eight bytes, as two numbers of four: a compiler makes one load of each.
+pub fn eight_at(b: &[u8], i: usize) -> u64
+    requires { ⌜ i + 8 ≤ length (now b) ⌝ }
+    ensures { λ r. ⌜ r ≡ uint 8 (now (b .entry)) i ⌝ }
+{
+    (four_at(b, i) as u64) * 0x1_0000_0000 + (four_at(b, i + 4) as u64)
+}
+
 // The whole number that the 64 bits of n are in two's complement.
 pub fn signed_of(n: u64) -> i64
     ensures { λ r. ⌜ r ≡ signed n ⌝ }
