@@ -4,8 +4,9 @@ use mathlib.Core.Path.{_≡_, refl, sym, ap, _∙_}
 use mathlib.Core.List.{List, [], _∷_, _++_}
 use native.Mathlib.Omega.{arith}
 use lib.ListN.{length, take, drop, set, length-append}
+use lib.Seq.{take-at}
 use Rattle.numbers.specs.Spliced.{spliced}
-use Rattle.numbers.proofs.Spliced.{spliced-nil, set-spliced, spliced-twice, length-spliced, lent-spliced}
+use Rattle.numbers.proofs.Spliced.{spliced-nil, spliced-front, set-spliced, spliced-twice, length-spliced, lent-spliced}
 use Rattle.weave.proofs.SplicedLaws.{length-stretch}
 
 -- x is xs with ys written at its front, up to a
@@ -40,6 +41,15 @@ module _ {xs ys x : List ℕ} {a : ℕ} (front : Front xs ys x a) where
 
   pub front-lent : (zs : List ℕ) {r : List ℕ} {n : ℕ} → a + n ≤ length xs → (n ≡ length zs) × (r ≡ spliced (rest x a) 0 zs) → Front xs (ys ++ zs) (back x a r) (a + n)
   front-lent zs h e = front-more zs h (e .0) (lent-spliced x a zs (e .1))
+
+  -- the same in an array, whose length the code has as a number
+  pub front-lent-in : {m : ℕ} → length xs ≡ m → (zs : List ℕ) {r : List ℕ} {n : ℕ} → a + n ≤ m → (n ≡ length zs) × (r ≡ spliced (take (m - a) (drop a x)) 0 zs)
+      → Front xs (ys ++ zs) (take a x ++ (r ++ drop (m - a) (drop a x))) (a + n)
+  front-lent-in {m} k zs h e = let l : m ≡ length x = omega (arith, front .long) in rw l (front-lent zs (omega arith) (rw l at e))
+
+  -- what is written can be taken from there
+  pub front-taken : take a x ≡ ys
+  front-taken = rw (front .bytes, spliced-front) (take-at ys (drop (length ys) xs) a (sym (front .end)))
 
   pub front-byte : (v : ℕ) → a < length xs → Front xs (ys ++ v ∷ []) (set x a v) (a + 1)
   front-byte v h = front-more (v ∷ []) (omega arith) refl (set-spliced x a v (omega (arith, front .long)))

@@ -1,6 +1,6 @@
 -- A line of bytes: how long its parts are, the entries one reading at a time, a wording without its trailing spaces, and a text in a buffer
 -- that has place for it or not. Assumes nothing.
-use Prim.Native.Nat.{ℕ, suc, _+_, _-_, _≤_, _<_}
+use Prim.Native.Nat.{ℕ, zero, suc, _+_, _-_, _*_, _^_, _≤_, _<_}
 use mathlib.Core.Path.{_≡_, refl, sym, ap, _∙_}
 use mathlib.Core.Bool.{and-false}
 use mathlib.Core.List.{List, [], _∷_, _++_, append-assoc}
@@ -9,10 +9,17 @@ use native.Mathlib.Omega.{arith}
 use borrow.Author.Tests.{ne-eqb, lt-ltb, le-ltb}
 use lib.ListN.{length, take, drop, getD, length-append, take-append-drop}
 use lib.Seq.{take-suc, take-take}
+use mir.Val.{Val}
+use denote.Array.{each}
+use denote.Shadow.{shadow}
+use denote.Struct.Declared.{row}
 use Rattle.numbers.specs.Digits.{digits}
 use Rattle.numbers.specs.Spliced.{spliced}
+use Rattle.numbers.proofs.Digits.{length-digits-32}
+use Rattle.matching.specs.Lists.{concatMap}
 use Rattle.matching.proofs.Laws.Lists.{concatMap-append, concatMap-one}
 use Rattle.reading.specs.declared.Reading.{Reading}
+use Rattle.reading.proofs.Reading.{the-type}
 use Rattle.lines.specs.Line.{entry, entries, trimmed, ending, lineText, lengthIn, textIn}
 
 -- ---- lengths
@@ -20,6 +27,21 @@ use Rattle.lines.specs.Line.{entry, entries, trimmed, ending, lineText, 
 pub length-entry : (r : Reading) → length (entry r) ≡ length (digits (r .line)) + length (digits (r .column)) + length (digits (r .value)) + 3
 unfolding entry
 length-entry r = simp length-append (omega arith)
+
+-- of three numbers of 32 bits, which have at most ten digits each
+pub length-entry-most : (r : Reading) → r .line < 2 ^ 32 → r .column < 2 ^ 32 → r .value < 2 ^ 32 → length (entry r) ≤ 33
+length-entry-most r l c v = omega (arith, length-entry r, length-digits-32 (r .line) l, length-digits-32 (r .column) c, length-digits-32 (r .value) v)
+
+-- of the first n readings of an array: what its type says of each reading is that its numbers have 32 bits
+pub length-entries-most : (readings : List Reading) (us : List Val) → shadow (each Reading (row the-type .own) readings us) → (n : ℕ) → length (entries (take n readings)) ≤ 33 * n
+unfolding concatMap
+length-entries-most readings us is zero = omega arith
+length-entries-most [] us is (suc n) = omega arith
+length-entries-most (r ∷ readings) [] is (suc n) = absurd is
+length-entries-most (r ∷ readings) (u ∷ us) is (suc n) =
+    let numbers = is .0 .1 .1 in
+    let first = length-entry-most r (numbers .0 .1) (numbers .1 .0 .1) (numbers .1 .1 .0 .1) in
+    simp length-append (omega (arith, length-entries-most readings us (is .1) n))
 
 pub length-ending : (wording : List ℕ) → length (ending wording) ≡ length (trimmed wording) + 3
 unfolding ending

@@ -5,9 +5,9 @@ ghost use lib.ListN.{length, take};
 ghost use Rattle.numbers.specs.Digits.{digits};
 ghost use Rattle.numbers.specs.Spliced.{spliced};
 ghost use Rattle.lines.specs.Line.{entry, entries, trimmed, ending, lineText, lengthIn, textIn};
-use numbers::digit_count;
 use numbers::put_digits;
 use reading::Reading;
+use room::write::copy_at;
 
 // How many bytes of a wording stand before its trailing spaces.
 pub fn trimmed_length(wording: &[u8]) -> usize
@@ -21,27 +21,6 @@ pub fn trimmed_length(wording: &[u8]) -> usize
         n -= 1;
     }
     0
-}
-
-// How many bytes an entry takes.
-pub fn entry_length(r: Reading) -> usize
-    ensures { λ n. ⌜ (n ≡ length (entry r)) × (n ≤ 33) ⌝ }
-{
-    digit_count(r.line) + digit_count(r.column) + digit_count(r.value) + 3
-}
-
-// How many bytes the entries of the first n readings take.
-pub fn entries_length(readings: [Reading; 6], n: usize) -> usize
-    requires { ⌜ n ≤ 6 ⌝ }
-    ensures { λ r. ⌜ (r ≡ length (entries (take n readings))) × (r ≤ 198) ⌝ }
-{
-    let mut total: usize = 0;
-    let mut i: usize = 0;
-    while i < n {
-        total += entry_length(readings[i]);
-        i += 1;
-    }
-    total
 }
 
 // One entry at the front of what is still free; how many bytes it took.
@@ -90,7 +69,8 @@ pub fn put_ending(free: &mut [u8], wording: &[u8], n: usize)
     free[2 + n] = 10;
 }
 
-// The line at the front of a buffer that has place for it; its length, or 0 where the buffer has none: then nothing is written.
+// The line at the front of a buffer that has place for it; its length, or 0 where the buffer has none: then nothing is written. It is put together aside, as no line is longer
+// than 230 bytes, and copied where it fits.
 pub fn put_line(
     buffer: &mut [u8],
     number: u32,
@@ -102,12 +82,14 @@ pub fn put_line(
     ensures { λ r. ⌜ (r ≡ lengthIn (now (buffer .entry)) (lineText number (take n readings) (now (wording .entry)))) × ((now (buffer .exit) ≡ textIn (now (buffer .entry)) (lineText number (take n readings) (now (wording .entry)))) × (length (lineText number (take n readings) (now (wording .entry))) ≤ 230)) ⌝ }
 {
     let shown = trimmed_length(wording);
-    let total = digit_count(number) + entries_length(readings, n) + shown + 3;
+    let mut text = [0u8; 230];
+    let mut at = put_digits(&mut text[..], number);
+    at += put_entries(&mut text[at..], readings, n);
+    put_ending(&mut text[at..], wording, shown);
+    let total = at + shown + 3;
     if buffer.len() < total {
         return 0;
     }
-    let mut at = put_digits(buffer, number);
-    at += put_entries(&mut buffer[at..], readings, n);
-    put_ending(&mut buffer[at..], wording, shown);
+    copy_at(buffer, 0, &text[..], total);
     total
 }

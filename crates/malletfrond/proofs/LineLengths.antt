@@ -11,7 +11,7 @@ use lib.Dec.{eqb}
 use lib.ListN.{length, getD, length-append}
 use Rattle.numbers.specs.Spliced.{spliced}
 use Rattle.numbers.proofs.BigEndian.{uint-below}
-use Rattle.numbers.proofs.Digits.{length-digits-16, length-digits-32}
+use Rattle.numbers.proofs.Digits.{length-digits-16}
 use Rattle.book.specs.Rules.{Rule}
 use Rattle.book.specs.Read.{readBook, accepted}
 use Rattle.book.specs.Limits.{All, RuleKept}
@@ -25,7 +25,7 @@ use Rattle.matching.specs.Complaints.{Matched, levels, complaints}
 use Rattle.matching.specs.Step.{State}
 use Rattle.matching.proofs.Laws.Complaints.{mem-complaints}
 use Rattle.lines.specs.Line.{entry, entries, trimmed, textIn}
-use Rattle.lines.proofs.LineLaws.{length-entry, length-lineText}
+use Rattle.lines.proofs.LineLaws.{length-entry-most, length-lineText}
 use Rattle.malletfrond.specs.declared.LineAnswer.the-variants as l
 use Rattle.malletfrond.specs.Answers.{complaintLine, complaintAt, lineAnswer, lineBuffer}
 use Rattle.malletfrond.specs.Runs.{line, replyIn}
@@ -45,14 +45,12 @@ module _ (s : State) (list : List Matched) (is : complaints (s .book) (s .readin
 
 -- ---- how long it is
 
-entry-short : (r : Reading) → Narrow r → length (entry r) ≤ 33
-entry-short r n = omega (arith, length-entry r, length-digits-32 (r .line) (n .0), length-digits-32 (r .column) (n .1), length-digits-32 (r .value) (n .2))
-
 length-entries : (d : Reading) (t : List Reading) → ((j : ℕ) → j < length t → Narrow (getD t j d)) → length (entries t) ≤ length t * 33
 unfolding concatMap
 length-entries d [] n = omega arith
 length-entries d (r ∷ t) n =
-    omega (arith, length-append (entry r) (entries t), entry-short r (n 0 (omega arith)), length-entries d t (λ j h. n (suc j) (omega arith)))
+    let first = n 0 (omega arith) in
+    omega (arith, length-append (entry r) (entries t), length-entry-most r (first .0) (first .1) (first .2), length-entries d t (λ j h. n (suc j) (omega arith)))
 
 length-trimmed : (l : List ℕ) → length (trimmed l) ≤ length l
 unfolding trimmed
