@@ -27,11 +27,11 @@ use Rattle.room.specs.Written.{slotsWith, rowsWith}
 use Rattle.room.proofs.BrokenLaws.{Whole, not-broken-whole}
 use Rattle.room.proofs.Put.{length-part}
 use Rattle.rete.specs.Row.{RowOf, bookFlags, lesser, movedIn}
-use Rattle.rete.specs.Rules.{rulesBuilt, Stretches, Told}
+use Rattle.rete.specs.Rules.{rulesBuilt, completesBuilt, Stretches, Told}
 use Rattle.weave.specs.View.{readOf, bitOf, passOf, read, pass}
 use Rattle.weave.specs.Weave.{before, Woven}
 use Rattle.rete.proofs.OrderLaws.{leading-within, take-movedIn, once-movedIn}
-use Rattle.step.specs.Worked.{bookIn, countsIn, endsIn, slotIn, viewIn, seenIn, AddedAt}
+use Rattle.step.specs.Worked.{bookIn, countsIn, endsIn, fullsIn, slotIn, viewIn, seenIn, AddedAt}
 use Rattle.checking.proofs.Extent.{told-ext}
 use Rattle.sound.specs.Sound.{Sound, stateOf}
 use Rattle.sound.proofs.Agree.{passSlot, Bits, bits-ext}
@@ -39,10 +39,10 @@ use Rattle.sound.proofs.Next.{Next, slotsNext}
 use Rattle.sound.proofs.Once.{once-new}
 use Rattle.sound.proofs.Ranks.{rankIn, order-long, rank-low, rank-high, rank-inserted}
 use Rattle.sound.proofs.ReadBack.{Fits, read-back, bit-back}
-use Rattle.sound.proofs.SoundRoom.{readIn, testsIn, countsOf, sound-kept, sound-bits, sound-tests, sound-counts, sound-stretches}
+use Rattle.sound.proofs.SoundRoom.{readIn, testsIn, countsOf, sound-kept, sound-bits, sound-tests, sound-counts, sound-completes, sound-stretches}
 use Rattle.sound.proofs.Tables.{sum-counts}
 use Rattle.sound.proofs.TokensBuilt.{Agrees, length-rulesBuilt}
-use Rattle.sound.proofs.Views.{seen-read, seen-stretches, seen-bits, seen-agrees}
+use Rattle.sound.proofs.Views.{seen-read, seen-stretches, seen-completes, seen-bits, seen-agrees}
 
 -- ---- lists
 
@@ -156,6 +156,12 @@ module _ (room : List ℕ) (s : Sound room) (w : Reading) (new : present (stateO
         (seen-stretches (bookIn room) (conditionPlacesPart (parts room)) (slotsPart (parts room)) (rowsPart (parts room)) row (viewIn room w) (slotsOf room) slot-new
         (nodesPart (parts room)) (lastsPart (parts room)) (endsIn room) (countsOf room s) (sound-stretches room s))
 
+    old-completes : fullsIn room ≡ completesBuilt (early room w ++ late room w) (read (seenIn room row w)) (pass (seenIn room row w)) 0 0 (countsIn room)
+    old-completes =
+        rw (take-append-drop (rankIn room w) (slotsOf room), sound-counts room s)
+        (sound-completes room s
+        ∙ seen-completes (bookIn room) (conditionPlacesPart (parts room)) (slotsPart (parts room)) (rowsPart (parts room)) row (viewIn room w) (slotsOf room) slot-new (countsOf room s))
+
     module _ (made : RowOf row (bookFlags (bookIn room) (conditionPlacesPart (parts room)) w 0 (countsIn room))) where
       order-bits : Bits (orderWith room w) (read (seenIn room row w)) (bitOf (rowsPart (parts room)) row (viewIn room w)) 0 (s .rules)
       order-bits =
@@ -185,7 +191,7 @@ module _ (room : List ℕ) (s : Sound room) (w : Reading) (new : present (stateO
         (replicate 32 0) (replicate 32 0) tokens complete (added .aside .nodes) (added .aside .lasts) (added .aside .ends) (added .aside .completes)
     told-seen =
         rw (order-next, sound-counts room s) at
-        (added .woven .does (early room w) (late room w) (rw order-next (order-woven (added .row))) (old-stretches (added .row)))
+        (added .woven .does (early room w) (late room w) (rw order-next (order-woven (added .row))) (old-stretches (added .row)) (old-completes (added .row)))
 
     pub adding-over : limit room < bookCount (s .rules) (inserted isLess w (held room .readings)) → tokens ≡ limit room + 1
     adding-over h = told-seen .planes .over (omega (arith, order-count (added .row) (added .made)))

@@ -35,7 +35,7 @@ use Rattle.sound.proofs.Agree.{Bits, bits-agree, bits-either}
 use Rattle.sound.proofs.Next.{Next, slotsNext}
 use Rattle.sound.proofs.Once.{times-mem, once-take}
 use Rattle.sound.proofs.Ranks.{order-long}
-use Rattle.sound.proofs.SoundRoom.{readIn, bitIn, testsIn, passIn, countsOf, sound-bits, sound-tests, sound-counts, sound-stretches, sound-count}
+use Rattle.sound.proofs.SoundRoom.{readIn, bitIn, testsIn, passIn, countsOf, sound-bits, sound-tests, sound-counts, sound-completes, sound-stretches, sound-count}
 use Rattle.sound.proofs.TokensBuilt.{length-rulesBuilt}
 
 -- ---- a list that names no slot twice
@@ -142,7 +142,7 @@ module _ (room : List ℕ) (s : Sound room) (w : Reading) (p : ℕ) (low : p < h
         (replicate 2048 0) (replicate 2048 0) (replicate 32 0) (replicate 32 0) tokens complete (at .aside .nodes) (at .aside .lasts) (at .aside .ends) (at .aside .completes)
     told =
         let counts : countsIn room ≡ countsOf room s = sound-counts room s in
-        rw counts at (at .sifted .does os (readIn room) (passIn room) (λ c t e. rw e) (rw counts (sound-stretches room s)) (rw counts length-left))
+        rw counts at (at .sifted .does os (readIn room) (passIn room) (λ c t e. rw e) (rw counts (sound-stretches room s)) (rw counts (sound-completes room s)) (rw counts length-left))
 
     pub removing-next : Next room s (at .aside) (slotsPart (parts room)) (rowsPart (parts room)) (without isSame w (held room .readings)) complete
     removing-next = record {

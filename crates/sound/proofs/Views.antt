@@ -23,9 +23,9 @@ use Rattle.room.specs.Broken.{sum}
 use Rattle.room.specs.Held.{inMemory}
 use Rattle.weave.specs.declared.view.View.{View}
 use Rattle.rete.specs.Row.{flag, flagsFrom, bookFlags, RowOf}
-use Rattle.rete.specs.Rules.{Stretches}
+use Rattle.rete.specs.Rules.{completesBuilt, Stretches}
 use Rattle.weave.specs.View.{readOf, bitOf, passOf, seen, read, pass}
-use Rattle.checking.proofs.Extent.{stretches-ext}
+use Rattle.checking.proofs.Extent.{completesBuilt-ext, stretches-ext}
 use Rattle.sound.proofs.Agree.{passSlot, Bits, bits-either, bits-ext, bits-agree}
 use Rattle.sound.proofs.Entries.{Entries, entries-left, entries-right}
 use Rattle.sound.proofs.TokensBuilt.{Agrees}
@@ -111,13 +111,23 @@ module _ (book places slots rows row : List ℕ) (v : View) where
     unfolding bitOf
     seen-bit c s m = rw (apart s m)
 
-    -- the old tokens are those of the slots in use, as the step sees them
+    seen-pass : (c : ℕ) (t : List Reading) (s : ℕ) → List·Memᴰ s os
+        → passSlot (readingAt slots) (inMemory rows) (tests book places) c t s ≡ pass (seen book places slots rows row v) c t s
+    unfolding passOf
+    seen-pass c t s m = rw (seen-bit c s m, seen-read s m)
+
+    -- the old tokens and complete matches are those of the slots in use, as the step sees them
     pub seen-stretches : (ns ls es ks : List ℕ) → Stretches ns ls os (readingAt slots) (passSlot (readingAt slots) (inMemory rows) (tests book places)) 0 0 es ks
         → Stretches ns ls os (read (seen book places slots rows row v)) (pass (seen book places slots rows row v)) 0 0 es ks
-    unfolding passOf
     seen-stretches ns ls es ks =
         stretches-ext os (readingAt slots) (readOf slots v) (passSlot (readingAt slots) (inMemory rows) (tests book places)) (pass (seen book places slots rows row v)) seen-read
-        (sum ks) (λ c t s b m. rw (seen-bit c s m, seen-read s m)) ns ls 0 0 es ks (omega arith)
+        (sum ks) (λ c t s b. seen-pass c t s) ns ls 0 0 es ks (omega arith)
+
+    pub seen-completes : (ks : List ℕ) → completesBuilt os (readingAt slots) (passSlot (readingAt slots) (inMemory rows) (tests book places)) 0 0 ks
+        ≡ completesBuilt os (read (seen book places slots rows row v)) (pass (seen book places slots rows row v)) 0 0 ks
+    seen-completes ks =
+        completesBuilt-ext os (readingAt slots) (readOf slots v) (passSlot (readingAt slots) (inMemory rows) (tests book places)) (pass (seen book places slots rows row v)) seen-read
+        (sum ks) (λ c t s b. seen-pass c t s) 0 0 ks (omega arith)
 
     -- the slots in use and the added one have the bits of their readings
     pub seen-bits : (rules : List Rule) → conditionCount rules ≤ 192 → RowOf row (bookFlags book places (v .w) 0 (map levels rules)) → Entries [] (tests book places) 0 (conditionsOf rules)

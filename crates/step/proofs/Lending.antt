@@ -120,12 +120,13 @@ module _ {room : List ℕ} {T n rules : ℕ} (k : Known room T n rules) where
         few = omega arith;
       }
 
-  pub tables : Tables (part room 8656 32) (part room 8688 64) (nodesLent room T) (lastsLent room T) (zeros 32) (zeros 32) rules
+  pub tables : Tables (part room 8656 32) (part room 8688 64) (part room 8752 64) (nodesLent room T) (lastsLent room T) (zeros 32) (zeros 32) rules
   tables =
       record {
         few = omega arith;
         counts-long = omega (arith, fixed-part 8656 32 (omega arith));
         ends-long = omega (arith, fixed-part 8688 64 (omega arith));
+        fulls-long = omega (arith, fixed-part 8752 64 (omega arith));
         fs-long = length-zeros 32;
         ms-long = length-zeros 32;
         each = λ r h. k .whole .counts r (omega arith);
@@ -152,7 +153,7 @@ module _ {room : List ℕ} {T n rules : ℕ} (k : Known room T n rules) where
   -- ---- a removal
 
   pub removed-at : {p tokens complete : ℕ} {room' : List ℕ} (s : Aside) → p < n → s .readings ≡ n - 1 → s .tokens ≡ tokens → s .order ≡ movedOut (part room 8816 256) p n
-      → SiftsAll (part room 12144 6144) (nodesLent room T) (lastsLent room T) (getD room (8816 + p) 0) T (twos rules (part room 8688 64)) (take rules (part room 8656 32))
+      → SiftsAll (part room 12144 6144) (nodesLent room T) (lastsLent room T) (getD room (8816 + p) 0) T (twos rules (part room 8688 64)) (twos rules (part room 8752 64)) (take rules (part room 8656 32))
       (zeros 2048) (zeros 2048) (zeros 32) (zeros 32) tokens complete (s .nodes) (s .lasts) (s .ends) (s .completes)
       → cut 0 (widths T) room' ≡ stepped s (slotsPart (cut 0 (widths T) room)) (rowsPart (cut 0 (widths T) room)) (cut 0 (widths T) room)
       → length room' ≡ length room → RemovedAt room p tokens complete room'
@@ -174,7 +175,7 @@ module _ {room : List ℕ} {T n rules : ℕ} (k : Known room T n rules) where
       → s .readings ≡ n + 1 → s .tokens ≡ tokens → s .order ≡ movedIn (part room 8816 256) p n
       → Weaves
       (seen (part room 16 (16 + L - 16)) (part room 8208 384) (part room 9072 3072) (part room 12144 6144) row (record { slot = getD room (8816 + n) 0; w = w }))
-      (take (n + 1) (s .order)) (nodesLent room T) (lastsLent room T) T (twos rules (part room 8688 64)) (take rules (part room 8656 32))
+      (take (n + 1) (s .order)) (nodesLent room T) (lastsLent room T) T (twos rules (part room 8688 64)) (twos rules (part room 8752 64)) (take rules (part room 8656 32))
       (zeros 2048) (zeros 2048) (zeros 32) (zeros 32) tokens complete (s .nodes) (s .lasts) (s .ends) (s .completes)
       → (T < tokens → room' ≡ room)
       → (tokens ≤ T → cut 0 (widths T) room'
