@@ -21,7 +21,8 @@ use Rattle.room.proofs.TwosRead.{length-twos}
 use Rattle.checking.specs.Checked.{Indexed, bookIn}
 use Rattle.checking.proofs.Numbers.{Bounds}
 
-take-padded : (n m : ℕ) (l : List ℕ) → m ≡ length l → take m (padded n l) ≡ l
+-- a list filled up with zeros has the list at its front
+pub take-padded : (n m : ℕ) (l : List ℕ) → m ≡ length l → take m (padded n l) ≡ l
 unfolding padded
 take-padded n m l e = take-at l (replicate (n - length l) 0) m (sym e)
 

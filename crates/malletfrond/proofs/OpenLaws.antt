@@ -37,7 +37,8 @@ use Rattle.malletfrond.specs.Answers.{limitsFit, openedBy, openAnswer}
 use Rattle.malletfrond.specs.Promise.{Opens}
 use Rattle.malletfrond.proofs.CallLaws.{opened-not-refused}
 use Rattle.sound.proofs.SoundLaws.{held-ext, held-sound}
-use Rattle.sound.proofs.Tables.{rulePlaces-most, conditionPlaces-most, take-padded, length-padded, getD-padded, twos-padded, counts-kept, sum-counts, uint-zeros, twos-zeros}
+use Rattle.checking.proofs.IndexLaws.{take-padded}
+use Rattle.sound.proofs.Tables.{rulePlaces-most, conditionPlaces-most, length-padded, getD-padded, twos-padded, counts-kept, sum-counts, uint-zeros, twos-zeros}
 use Rattle.sound.proofs.NoReadings.{endsOf-none, completesOf-none, memories-none, map-none, tokensHeld-none}
 
 -- ---- the limits
@@ -131,7 +132,7 @@ module _ (room room' book : List ℕ) (rules : List Rule) (E T : ℕ) (fit : Lim
       (number 0 (omega arith))
       (number 1 (omega arith))
       (ap₂ twos (number 5 (omega arith) ∙ sym (length-rulePlaces 0 rules)) (part-here 3) ∙ twos-padded 32 (rulePlaces 0 rules) (omega (arith, length-rulePlaces 0 rules, kept .most)) (rulePlaces-most 8192 0 rules within))
-      (ap₂ take (number 5 (omega arith) ∙ sym (length-counts rules)) (part-here 4) ∙ take-padded 32 (counts rules))
+      (ap₂ take (number 5 (omega arith) ∙ sym (length-counts rules)) (part-here 4) ∙ take-padded 32 (length (counts rules)) (counts rules) refl)
       (ap₂ twos (number 6 (omega arith) ∙ sym (length-conditionPlaces 0 rules)) (part-here 2)
       ∙ twos-padded 192 (conditionPlaces 0 rules) (omega (arith, length-conditionPlaces 0 rules, few)) (conditionPlaces-most 8192 0 rules within))
       (ap₂ twos (number 5 (omega arith)) (part-here 5) ∙ twos-zeros (length rules) 64 ∙ sym (endsOf-none 0 rules))
@@ -158,7 +159,7 @@ module _ (room room' book : List ℕ) (rules : List Rule) (E T : ℕ) (fit : Lim
         conditions = omega (arith, number 6 (omega arith), few);
         zero = number 7 (omega arith);
         counts = λ i h. rw (table, getD-padded 32 (counts rules) i (omega (arith, number 5 (omega arith), length-counts rules))) (counts-kept rules (kept .each) (kept .some) i (omega (arith, number 5 (omega arith))));
-        total = ap sum (ap₂ take (number 5 (omega arith) ∙ sym (length-counts rules)) table ∙ take-padded 32 (counts rules)) ∙ sum-counts rules ∙ sym (number 6 (omega arith));
+        total = ap sum (ap₂ take (number 5 (omega arith) ∙ sym (length-counts rules)) table ∙ take-padded 32 (length (counts rules)) (counts rules) refl) ∙ sum-counts rules ∙ sym (number 6 (omega arith));
         ends = λ i h. omega (arith, none (part room' 8688 64) (part-here 5) (i * 2));
         completes = λ i h. omega (arith, none (part room' 8752 64) (part-here 6) (i * 2));
       }

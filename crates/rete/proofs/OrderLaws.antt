@@ -20,7 +20,8 @@ use Rattle.room.specs.Held.{times, Once}
 use Rattle.room.proofs.Order.{times-append}
 use Rattle.rete.specs.Row.{leading, lesser, movedIn, movedOut}
 use Rattle.weave.proofs.Grown.{le-or-lt}
-use Rattle.weave.proofs.SplicedLaws.{length-stretch, stretch-one, stretch-up-to, stretch-rest, spliced-whole}
+use Rattle.room.proofs.Spliced.{spliced-whole}
+use Rattle.weave.proofs.SplicedLaws.{length-stretch, stretch-one, stretch-up-to, stretch-rest}
 
 -- ---- lists
 

@@ -6,7 +6,7 @@ use mathlib.Core.Bool.{Bool, false}
 use mathlib.Core.List.{List, [], _∷_, _++_, map}
 use native.Mathlib.Omega.{arith}
 use lib.ListN.{length, take, drop, getD, replicate, length-map, length-replicate, replicate-append-replicate}
-use lib.Seq.{take-at, drop-at, length-take-le}
+use lib.Seq.{take-at, drop-at}
 use Rattle.numbers.specs.BigEndian.{uint, bytes}
 use Rattle.numbers.specs.Spliced.{spliced}
 use Rattle.numbers.proofs.Spliced.{spliced-front}
@@ -146,11 +146,6 @@ module _ (room room' : List ℕ) (s : Sound room) (a : Aside) (slots rows : List
 
   pub next-complete : complete ≡ length (complaints (s .rules) R)
   next-complete = next .told .complete-is fits ∙ completeBuilt-of os read pass 0 (s .rules) some agrees ∙ ap (λ (l : List Reading). length (complaints (s .rules) l)) (next .reads)
-
-  pub next-readings : a .readings ≡ length R
-  next-readings =
-      let w : Whole room = whole-before in
-      omega (arith, ap length (next .reads), length-map os read, length-take-le (a .readings) (a .order) (omega (arith, next .few, next .order-long)))
 
   nodes-aside : take (a .tokens) (a .nodes) ≡ nodes made
   nodes-aside =

@@ -6,7 +6,6 @@ use mathlib.Core.List.{List, [], _∷_, _++_}
 use native.Mathlib.Omega.{arith}
 use native.Mathlib.Numerals.{add-one}
 use lib.ListN.{length, take, getD, replicate, length-append, length-replicate, List·getD-append, replicate-append-replicate}
-use lib.Seq.{take-at}
 use Rattle.numbers.specs.BigEndian.{uint}
 use Rattle.book.specs.declared.record.Test.{Test}
 use Rattle.book.specs.Rules.{Rule, conditionCount, testsSize, conditionsSize, rulesSize, rulePlaces, conditionPlacesIn, conditionPlaces, padded}
@@ -16,6 +15,7 @@ use Rattle.room.specs.Parts.{twos, twosBytes}
 use Rattle.room.specs.Broken.{sum}
 use Rattle.room.proofs.Twos.{twos-prefix}
 use Rattle.room.proofs.TwosRead.{length-twos}
+use Rattle.checking.proofs.IndexLaws.{take-padded}
 
 -- ---- numbers that are at most some bound, wherever they stand in a list
 
@@ -61,10 +61,6 @@ places-counted n b rules e = sym (length-twos n b) ∙ ap length e ∙ length-co
 
 -- ---- a list filled up with zeros: its front, and read back from two bytes each
 
-pub take-padded : (n : ℕ) (l : List ℕ) → take (length l) (padded n l) ≡ l
-unfolding padded
-take-padded n l = take-at l (replicate (n - length l) 0) (length l) refl
-
 pub length-padded : (n : ℕ) (l : List ℕ) → length l ≤ n → length (padded n l) ≡ n
 unfolding padded
 length-padded n l h = omega (arith, length-append l (replicate (n - length l) 0), length-replicate {A = ℕ} (n - length l) 0)
@@ -79,7 +75,7 @@ twos-padded n l h small =
     twos-prefix (length l) (padded n l)
     (λ i. omega (arith, atMost-append 8192 l (replicate (n - length l) 0) small (atMost-zeros 8192 (n - length l)) i))
     (omega (arith, length-padded n l h))
-    ∙ take-padded n l
+    ∙ take-padded n (length l) l refl
 
 -- ---- how many conditions each rule has
 
