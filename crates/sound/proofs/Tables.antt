@@ -5,7 +5,7 @@ use mathlib.Core.Path.{_≡_, refl, sym, ap, _∙_}
 use mathlib.Core.List.{List, [], _∷_, _++_}
 use native.Mathlib.Omega.{arith}
 use native.Mathlib.Numerals.{add-one}
-use lib.ListN.{length, take, getD, replicate, length-append, length-replicate, List·getD-append, replicate-append-replicate}
+use lib.ListN.{length, getD, replicate, length-append, length-replicate, List·getD-append, replicate-append-replicate}
 use Rattle.numbers.specs.BigEndian.{uint}
 use Rattle.book.specs.declared.record.Test.{Test}
 use Rattle.book.specs.Rules.{Rule, conditionCount, testsSize, conditionsSize, rulesSize, rulePlaces, conditionPlacesIn, conditionPlaces, padded}
