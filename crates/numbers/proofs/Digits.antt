@@ -7,8 +7,10 @@ use native.Mathlib.Decide.{decLe}
 use native.Mathlib.Nat.{pow-suc, one-le-pow, lt-of-not-le}
 use native.Mathlib.Omega.{arith}
 use borrow.Author.Tests.{lt-ltb, le-ltb}
-use lib.ListN.{length, length-append}
+use lib.ListN.{length, set, length-append, length-set}
 use Rattle.numbers.specs.Digits.{digitsTo, digits}
+use Rattle.numbers.specs.Spliced.{spliced}
+use Rattle.numbers.proofs.Spliced.{set-spliced, spliced-up-to}
 
 small-to : (most x : ℕ) → x < 10 → digitsTo (suc most) x ≡ (48 + x) ∷ []
 unfolding digitsTo
@@ -91,3 +93,30 @@ length-digits-32 x h = length-digits 9 x (omega arith)
 
 pub length-digits-16 : (x : ℕ) → x < 2 ^ 16 → (1 ≤ length (digits x)) × (length (digits x) ≤ 5)
 length-digits-16 x h = length-digits 4 x (omega arith)
+
+-- ---- written from the last on
+
+-- the last digit of y at its place a in xs: then the digits of its tenth make of xs what those of y make of it, and are as many as stand before that place
+pub last-put : (xs : List ℕ) (y a : ℕ) → a + 1 ≡ length (digits y) → 1 ≤ a → a < length xs
+    → (a ≡ length (digits (y / 10))) × (spliced (set xs a (48 + y % 10)) 0 (digits (y / 10)) ≡ spliced xs 0 (digits y))
+last-put xs y a many some inside =
+    let large = more-digits y (omega arith) in
+    let last = 48 + y % 10 in
+    let left : a ≡ length (digits (y / 10)) = omega (arith, length-digits-large y large) in (
+      left,
+      ap (λ (l : List ℕ). spliced l 0 (digits (y / 10))) (set-spliced xs a last inside)
+          ∙ spliced-up-to xs (digits (y / 10)) a (last ∷ []) (omega arith) left
+          ∙ ap (spliced xs 0) (sym (digits-large y large)),
+    )
+
+-- the last two at theirs
+pub two-put : (xs : List ℕ) (y a : ℕ) → a + 2 ≡ length (digits y) → 1 ≤ a → a + 1 < length xs
+    → (a ≡ length (digits (y / 100))) × (spliced (set (set xs (a + 1) (48 + y % 100 % 10)) a (48 + y % 100 / 10)) 0 (digits (y / 100)) ≡ spliced xs 0 (digits y))
+two-put xs y a many some inside =
+    let last = last-put xs y (a + 1) (omega arith) (omega arith) inside in
+    let one = set xs (a + 1) (48 + y % 10) in
+    let next = last-put one (y / 10) a (last .0) some (simp length-set (omega arith)) in
+    let tenth : y / 100 ≡ y / 10 / 10 = omega arith in
+    let low : y % 100 % 10 ≡ y % 10 = omega arith in
+    let high : y % 100 / 10 ≡ y / 10 % 10 = omega arith in
+    rw (tenth, low, high) (next .0, next .1 ∙ last .1)

@@ -129,7 +129,7 @@ pub fn digit_count(x: u32) -> usize
     10
 }
 
-// The decimal digits of x into the front of `rest`, the last one first; how many they are.
+// The decimal digits of x into the front of `rest`, the last two first; how many they are.
 pub fn put_digits(rest: &mut [u8], x: u32) -> usize
     requires { ⌜ length (digits x) ≤ length (now rest) ⌝ }
     ensures { λ r. ⌜ (r ≡ length (digits x)) × (now (rest .exit) ≡ spliced (now (rest .entry)) 0 (digits x)) ⌝ }
@@ -137,9 +137,15 @@ pub fn put_digits(rest: &mut [u8], x: u32) -> usize
     let n = digit_count(x);
     let mut at = n;
     let mut y = x;
-    while 1 < at {
-        at -= 1;
-        rest[at] = 48 + ((y % 10) as u8);
+    while 2 < at {
+        at -= 2;
+        let two = y % 100;
+        rest[at + 1] = 48 + ((two % 10) as u8);
+        rest[at] = 48 + ((two / 10) as u8);
+        y = y / 100;
+    }
+    if at == 2 {
+        rest[1] = 48 + ((y % 10) as u8);
         y = y / 10;
     }
     rest[0] = 48 + (y as u8);

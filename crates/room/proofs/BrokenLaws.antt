@@ -5,6 +5,7 @@ use mathlib.Core.Path.{_≡_, refl, sym, ap, _∙_}
 use mathlib.Core.Bool.{Bool, true, false, not, _&&_, and-false, or-true}
 use mathlib.Core.List.{List, [], _∷_, _++_}
 use mathlib.Core.Logic.{_↔_}
+use mathlib.Mathlib.Data.Bool.Basic.{eq-false-of-not-eq-true}
 use native.Mathlib.Numerals.{add-one}
 use native.Mathlib.Omega.{arith}
 use borrow.Author.Tests.{leb-true, leb-false, eqb-true, lt-ltb, le-ltb, le-leb, eq-eqb}
@@ -175,10 +176,10 @@ pub record RuleFits (room : List ℕ) (tokens i : ℕ) : Type 0 where
   pub completes : uint 2 room (8752 + i * 2) ≤ tokens
 
 module _ (room : List ℕ) where
-  count-at : (i : ℕ) → i < 32 → getD (part room 8656 32) i 0 ≡ getD room (8656 + i) 0
+  pub count-at : (i : ℕ) → i < 32 → getD (part room 8656 32) i 0 ≡ getD room (8656 + i) 0
   count-at i h = getD-take 32 (drop 8656 room) i 0 h ∙ getD-drop 8656 room i 0
 
-  two-of : (a i : ℕ) → i < 32 → uint 2 (part room a 64) (i * 2) ≡ uint 2 room (a + i * 2)
+  pub two-of : (a i : ℕ) → i < 32 → uint 2 (part room a 64) (i * 2) ≡ uint 2 room (a + i * 2)
   two-of a i h =
       uint-ext 2 (part room a 64) (i * 2) (drop a room) (i * 2) (λ k l. getD-take 64 (drop a room) (i * 2 + k) 0 (omega arith)) ∙ uint-drop 2 a room (i * 2)
 
@@ -227,7 +228,7 @@ module _ (room : List ℕ) where
         )
 
     -- rule by rule, by the numbers as they are read
-    pub tables-read : {rules tokens conditions : ℕ} → rules ≡ uint 2 room 10 → tokens ≡ uint 2 room 6 → conditions ≡ uint 2 room 12 → rules ≤ 32
+    tables-read : {rules tokens conditions : ℕ} → rules ≡ uint 2 room 10 → tokens ≡ uint 2 room 6 → conditions ≡ uint 2 room 12 → rules ≤ 32
         → (tablesFit room ≡ true) ↔ (((i : ℕ) → i < rules → RuleFits room tokens i) × (sum (take rules (part room 8656 32)) ≡ conditions))
     tables-read {rules} {tokens} {conditions} r t c few =
         let r' : rules ≡ headNumber room 5 = r ∙ sym (headNumber-at room 5 (omega arith)) in
@@ -235,6 +236,17 @@ module _ (room : List ℕ) where
         let c' : conditions ≡ headNumber room 6 = c ∙ sym (headNumber-at room 6 (omega arith)) in
         let fit : (tablesFit room ≡ true) ↔ Tables room rules tokens conditions = rw (r', t', c') (tables-fit (omega arith)) in
         (λ h. tables-rules few (fit .0 h), λ h. fit .1 (rules-tables few (h .0) (h .1)))
+
+    -- the verdict: where not every rule fits, and where every one does, so that it is left to what their conditions add up to
+    module _ {rules tokens : ℕ} (r : rules ≡ uint 2 room 10) (t : tokens ≡ uint 2 room 6) (few : rules ≤ 32) where
+      pub some-unfit : (((i : ℕ) → i < rules → RuleFits room tokens i) → ⊥) → tablesFit room ≡ false
+      some-unfit outside = eq-false-of-not-eq-true λ h. outside (tables-read r t refl few .0 h .0)
+
+      pub all-fit : {conditions total : ℕ} → conditions ≡ uint 2 room 12 → ((i : ℕ) → i < rules → RuleFits room tokens i)
+          → total ≡ sum (take rules (part room 8656 32)) → eqb total conditions ≡ tablesFit room
+      all-fit c fits total =
+          let read = tables-read r t c few in
+          agreed _ _ (λ h. read .1 (fits, sym total ∙ eqb-true _ _ h), λ h. eq-eqb _ _ (total ∙ read .0 h .1))
 
 -- ---- a room that is not broken
 

@@ -1,21 +1,17 @@
--- `room::broken::tables_fit` meets its contract. The loop's invariant: the first i rules fit, and `total` is the sum of their conditions, so at most 6 for each.
+-- `room::broken::few_fit` meets its contract. The loop's invariant: the first i rules fit, and `total` is the sum of their conditions, so at most 6 for each.
 -- The measure is how many rules are left. Assumes nothing.
 use Prim.Native.Nat.{ℕ, _+_, _-_, _*_, _≤_, _<_}
-use mathlib.Core.Path.{_≡_, refl, sym, _∙_}
-use mathlib.Core.Bool.{true, false}
-use mathlib.Core.Logic.{_↔_}
-use mathlib.Mathlib.Data.Bool.Basic.{eq-false-of-not-eq-true}
+use mathlib.Core.Path.{_≡_, refl, sym}
+use mathlib.Core.Bool.{false}
 use native.Mathlib.Omega.{arith}
 use borrow.Author.Count.{below-none, below-more}
 use borrow.Author.Needs.{needs}
-use borrow.Author.Tests.{eqb-true, eq-eqb}
 use lib.ListN.{take}
-use Rattle.numbers.specs.BigEndian.{uint}
 use Rattle.room.specs.Parts.{part}
 use Rattle.room.specs.Broken.{sum, tablesFit}
-use Rattle.room.proofs.BrokenLaws.{agreed, RuleFits, total-more, tables-read}
-use Rattle.room.proofs.broken.tables_fit.Statement.{statement}
-use Rattle.room.proofs.broken.tables_fit.Tie as tie
+use Rattle.room.proofs.BrokenLaws.{RuleFits, total-more, some-unfit, all-fit}
+use Rattle.room.proofs.broken.few_fit.Statement.{statement}
+use Rattle.room.proofs.broken.few_fit.Tie as tie
 
 abbrev Inv-loop : tie.InvT-loop
 Inv-loop room rules tokens total₀ i₀ total i =
@@ -26,9 +22,6 @@ abbrev μ-loop : tie.MeasureT-loop
 
 two-at-requires : tie.Need-two-at-requires Inv-loop μ-loop
 two-at-requires c κs = search needs
-
-two-at-requires-2 : tie.Need-two-at-requires-2 Inv-loop μ-loop
-two-at-requires-2 c κs = search needs
 
 loop-holds : tie.Need-loop-holds Inv-loop μ-loop
 unfolding sum
@@ -43,20 +36,15 @@ shared-slice-read-k c = search needs
 cast-k : tie.Need-cast-k Inv-loop μ-loop
 cast-k c = omega (arith, c .shared-slice-known2 .given (8656 + c .before .before .loop .i))
 
--- the tables, rule by rule, by the numbers that are read before the loop
-read : (c : tie.At-loop Inv-loop μ-loop) (conditions : ℕ) →
-    let room = c .before .before .before .before .args .room .now in
-    let rules = c .before .before .two-at .result in
-    conditions ≡ uint 2 room 12
-    → (tablesFit room ≡ true) ↔ (((i : ℕ) → i < rules → RuleFits room (c .before .two-at2 .result) i) × (sum (take rules (part room 8656 32)) ≡ conditions))
-read c conditions e = tables-read _ (omega arith) (c .before .before .two-at .ensures .0) (c .before .two-at2 .ensures .0) e (omega arith)
-
--- the rule at `i` is one of them
+-- the rule at `i` does not fit
 unfit : (c : tie.In-loop Inv-loop μ-loop) →
-    let a = c .before in
-    let room = a .before .before .before .before .args .room .now in
-    (RuleFits room (a .before .two-at2 .result) (a .loop .i) → ⊥) → false ≡ tablesFit room
-unfit c outside = sym (eq-false-of-not-eq-true λ t. outside (read (c .before) _ refl .0 t .0 (c .before .loop .i) (c .loop-test .taken)))
+    let l = c .before in
+    let room = l .before .before .before .args .room .now in
+    (RuleFits room (l .before .two-at .result) (l .loop .i) → ⊥) → false ≡ tablesFit room
+unfit c outside =
+    let l = c .before in
+    let s = l .before .before .before in
+    sym (some-unfit (s .args .room .now) (omega arith) (s .pre .1 .0) (l .before .two-at .ensures .0) (omega arith) λ all. outside (all (l .loop .i) (c .loop-test .taken)))
 
 returns : tie.Need-returns Inv-loop μ-loop
 returns c = unfit (c .before .before) λ h. omega arith
@@ -70,8 +58,8 @@ mul-two-at c = search needs
 add-two-at : tie.Need-add-two-at Inv-loop μ-loop
 add-two-at c = search needs
 
-two-at-requires-3 : tie.Need-two-at-requires-3 Inv-loop μ-loop
-two-at-requires-3 c κs = search needs
+two-at-requires-2 : tie.Need-two-at-requires-2 Inv-loop μ-loop
+two-at-requires-2 c κs = search needs
 
 returns-3 : tie.Need-returns-3 Inv-loop μ-loop
 returns-3 c = unfit (c .before .before .before .before .before) λ h. omega arith
@@ -82,8 +70,8 @@ mul-two-at-2 c = search needs
 add-two-at-2 : tie.Need-add-two-at-2 Inv-loop μ-loop
 add-two-at-2 c = search needs
 
-two-at-requires-4 : tie.Need-two-at-requires-4 Inv-loop μ-loop
-two-at-requires-4 c κs = search needs
+two-at-requires-3 : tie.Need-two-at-requires-3 Inv-loop μ-loop
+two-at-requires-3 c κs = search needs
 
 returns-4 : tie.Need-returns-4 Inv-loop μ-loop
 returns-4 c = unfit (c .before .before .before .before .before .before .before) λ h. omega arith
@@ -100,33 +88,36 @@ loop-less c = search needs
 loop-again : tie.Need-loop-again Inv-loop μ-loop
 loop-again c =
     let a = c .before .before .before .before .before .before .before .before in
-    let room = a .before .before .before .before .args .room .now in
+    let room = a .before .before .before .args .room .now in
     let i = a .loop .i in
-    let here : RuleFits room (a .before .two-at2 .result) i = omega arith in
+    let here : RuleFits room (a .before .two-at .result) i = omega arith in
     (omega arith, (omega (arith, total-more room (omega arith) i (omega arith)), (omega arith, below-more _ _ (a .loop .inv .1 .1 .1) here)))
 
-two-at-requires-5 : tie.Need-two-at-requires-5 Inv-loop μ-loop
-two-at-requires-5 c κs = search needs
+two-at-requires-4 : tie.Need-two-at-requires-4 Inv-loop μ-loop
+two-at-requires-4 c κs = search needs
 
 returns-5 : tie.Need-returns-5 Inv-loop μ-loop
 returns-5 c =
-    let l = c .before .before .loop in
-    let all = read (c .before .before) (c .two-at5 .result) (c .two-at5 .ensures .0) in
-    let e : l .i ≡ c .before .before .before .before .two-at .result = omega arith in
-    let total = rw e at (l .inv .1 .0) in
-    agreed _ _ (
-      λ t. all .1 (λ k h. l .inv .1 .1 .1 k (omega arith), sym total ∙ eqb-true _ _ t),
-      λ t. eq-eqb _ _ (total ∙ all .0 t .1),
-    )
+    let l = c .before .before in
+    let s = l .before .before .before in
+    let e : l .loop .i ≡ s .args .rules = omega arith in
+    all-fit
+    (s .args .room .now)
+    (omega arith)
+    (s .pre .1 .0)
+    (l .before .two-at .ensures .0)
+    (omega arith)
+    (c .two-at4 .ensures .0)
+    (λ k h. l .loop .inv .1 .1 .1 k (omega arith))
+    (rw e at (l .loop .inv .1 .0))
 
-pub tables-fit-spec : {M : Type 1} → statement M
-tables-fit-spec =
+pub few-fit-spec : {M : Type 1} → statement M
+few-fit-spec =
     tie.close
     (tie.spec
     Inv-loop
     μ-loop
     two-at-requires
-    two-at-requires-2
     loop-holds
     add-k
     shared-slice-read-k
@@ -135,15 +126,15 @@ tables-fit-spec =
     returns-2
     mul-two-at
     add-two-at
-    two-at-requires-3
+    two-at-requires-2
     returns-3
     mul-two-at-2
     add-two-at-2
-    two-at-requires-4
+    two-at-requires-3
     returns-4
     add-total
     add-i
     loop-less
     loop-again
-    two-at-requires-5
+    two-at-requires-4
     returns-5)
