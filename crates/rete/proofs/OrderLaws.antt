@@ -8,7 +8,7 @@ use mathlib.Core.List.{List, [], _∷_, _++_, map, append-assoc}
 use mathlib.Core.List.{List·Memᴰ, List·Memᴰ·head, List·Memᴰ·tail, List·Memᴰ·not-nil, List·Memᴰ·cases-cons, Memᴰ·map}
 use native.Mathlib.Numerals.{add-one}
 use native.Mathlib.Omega.{arith}
-use lib.ListN.{length, take, drop, getD, length-append, length-drop, take-append-drop}
+use lib.ListN.{length, take, drop, getD, set, length-append, length-drop, take-append-drop}
 use lib.Seq.{take-at, take-take, split-at, length-take-le, length-slice, getD-take, getD-drop}
 use Rattle.numbers.specs.Spliced.{spliced}
 use Rattle.numbers.proofs.Spliced.{spliced-twice}
@@ -20,7 +20,7 @@ use Rattle.room.specs.Held.{times, Once}
 use Rattle.room.proofs.Order.{times-append}
 use Rattle.rete.specs.Row.{leading, lesser, movedIn, movedOut}
 use Rattle.weave.proofs.Grown.{le-or-lt}
-use Rattle.room.proofs.Spliced.{spliced-whole}
+use Rattle.room.proofs.Spliced.{set-behind, spliced-whole}
 use Rattle.weave.proofs.SplicedLaws.{length-stretch, stretch-one, stretch-up-to, stretch-rest}
 
 -- ---- lists
@@ -143,7 +143,7 @@ module _ (slots : List ℕ) (w : Reading) (order : List ℕ) (n : ℕ) (long : n
         ranked = λ up. (b .ranked up .0, leading-below slots w (take n order) mid mid-first (rw mid-is e));
       }
 
--- ---- an order written in four parts
+-- ---- an order written in four parts, and one written in place
 
 four-parts : (xs a b c d : List ℕ) (i j k : ℕ) → i ≡ length a → j ≡ i + length b → k ≡ j + length c → length xs ≡ k + length d
     → spliced (spliced (spliced (spliced xs 0 a) i b) j c) k d ≡ a ++ (b ++ (c ++ d))
@@ -157,32 +157,32 @@ four-parts xs a b c d i j k p q r s =
     ∙ spliced-whole xs (((a ++ b) ++ c) ++ d) (omega arith)
     ∙ simp append-assoc
 
--- the order as `put_in` and `taken_from` write it
-module _ (l xs a b c d : List ℕ) (p n : ℕ) (xs-long : length xs ≡ 256) (long : length l ≡ 256) where
-  pub movedIn-written : p ≤ n → n < 256 → a ≡ spliced xs 0 (take p (drop 0 l)) → b ≡ spliced a p (take 1 (drop n l)) → c ≡ spliced b (p + 1) (take (n - p) (drop p l))
-      → d ≡ spliced c (n + 1) (take (255 - n) (drop (n + 1) l)) → d ≡ movedIn l p n
-  movedIn-written low high ea eb ec ed =
-      let x = length-stretch l 0 p (omega arith) in
-      let y = length-stretch l n 1 (omega arith) in
-      let z = length-stretch l p (n - p) (omega arith) in
-      let w = length-stretch l (n + 1) (255 - n) (omega arith) in
-      rw (ed, ec, eb, ea)
-      (four-parts xs (take p l) (take 1 (drop n l)) (take (n - p) (drop p l)) (take (255 - n) (drop (n + 1) l)) p (p + 1) (n + 1)
-      (omega arith) (omega arith) (omega arith) (omega arith)
-      ∙ rw (stretch-one l n 0 (omega arith), stretch-up-to l p n low (omega arith), stretch-rest l (n + 1) (255 - n) (omega arith)))
+-- the order as `put_in` writes it
+pub movedIn-written : (l xs a b c d : List ℕ) (p n : ℕ) → length xs ≡ 256 → length l ≡ 256 → p ≤ n → n < 256 → a ≡ spliced xs 0 (take p (drop 0 l))
+    → b ≡ spliced a p (take 1 (drop n l)) → c ≡ spliced b (p + 1) (take (n - p) (drop p l)) → d ≡ spliced c (n + 1) (take (255 - n) (drop (n + 1) l)) → d ≡ movedIn l p n
+movedIn-written l xs a b c d p n xs-long long low high ea eb ec ed =
+    let x = length-stretch l 0 p (omega arith) in
+    let y = length-stretch l n 1 (omega arith) in
+    let z = length-stretch l p (n - p) (omega arith) in
+    let w = length-stretch l (n + 1) (255 - n) (omega arith) in
+    rw (ed, ec, eb, ea)
+    (four-parts xs (take p l) (take 1 (drop n l)) (take (n - p) (drop p l)) (take (255 - n) (drop (n + 1) l)) p (p + 1) (n + 1)
+    (omega arith) (omega arith) (omega arith) (omega arith)
+    ∙ rw (stretch-one l n 0 (omega arith), stretch-up-to l p n low (omega arith), stretch-rest l (n + 1) (255 - n) (omega arith)))
 
-  pub movedOut-written : p < n → n ≤ 256 → a ≡ spliced xs 0 (take p (drop 0 l)) → b ≡ spliced a p (take (n - 1 - p) (drop (p + 1) l)) → c ≡ spliced b (n - 1) (take 1 (drop p l))
-      → d ≡ spliced c n (take (256 - n) (drop n l)) → d ≡ movedOut l p n
-  movedOut-written low high ea eb ec ed =
-      let e : n - 1 - p ≡ n - (p + 1) = omega arith in
-      let x = length-stretch l 0 p (omega arith) in
-      let y = length-stretch l (p + 1) (n - 1 - p) (omega arith) in
-      let z = length-stretch l p 1 (omega arith) in
-      let w = length-stretch l n (256 - n) (omega arith) in
-      rw (ed, ec, eb, ea)
-      (four-parts xs (take p l) (take (n - 1 - p) (drop (p + 1) l)) (take 1 (drop p l)) (take (256 - n) (drop n l)) p (n - 1) n
-      (omega arith) (omega arith) (omega arith) (omega arith)
-      ∙ rw (e, stretch-one l p 0 (omega arith), stretch-up-to l (p + 1) n (omega arith) (omega arith), stretch-rest l n (256 - n) (omega arith)))
+-- the order as `take_from` leaves it: the slots behind p moved down, and then the slot of p set behind them
+pub movedOut-set : (l l1 : List ℕ) (p n : ℕ) → p < n → n ≤ length l → l1 ≡ spliced l p (take (n - 1 - p) (drop (p + 1) l)) → set l1 (n - 1) (getD l p 0) ≡ movedOut l p n
+unfolding spliced
+movedOut-set l l1 p n low high e =
+    let v : ℕ = getD l p 0 in
+    let m : List ℕ = take (n - 1 - p) (drop (p + 1) l) in
+    let count : n - 1 - p ≡ n - (p + 1) = omega arith in
+    let these : m ≡ drop (p + 1) (take n l) = ap (λ (k : ℕ). take k (drop (p + 1) l)) count ∙ stretch-up-to l (p + 1) n (omega arith) (omega arith) in
+    let many = length-stretch l (p + 1) (n - 1 - p) (omega arith) in
+    let end : p + length (m ++ v ∷ []) ≡ n = omega (arith, length-append m (v ∷ [])) in
+    ap (λ (x : List ℕ). set x (n - 1) v) e
+    ∙ set-behind l p m (n - 1) v (omega arith) (omega arith)
+    ∙ rw (end, these, append-assoc)
 
 -- ---- movedIn
 

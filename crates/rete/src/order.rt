@@ -8,6 +8,7 @@ ghost use Rattle.matching.specs.Order.{Less, Sorted};
 ghost use Rattle.rete.specs.Row.{leading, lesser, standsAt, movedIn, movedOut};
 use reading::Reading;
 use weave::copy::copy_from;
+use weave::copy::move_down;
 
 // How many of the first n slots have a reading that comes before w, found by halving: of slots whose readings ascend. Of any other a place up to n.
 pub fn rank_of(order: &[u8], slots: &[u8], n: usize, w: Reading) -> usize
@@ -52,15 +53,12 @@ pub fn put_in(order: &[u8], p: usize, n: usize) -> [u8; 256]
     next
 }
 
-// The slot at p goes behind the other slots of the first n.
-pub fn taken_from(order: &[u8], p: usize, n: usize) -> [u8; 256]
+// The slot at p goes behind the other slots of the first n, in place.
+pub fn take_from(order: &mut [u8], p: usize, n: usize)
     requires { ⌜ (length (now order) ≡ 256) × ((p < n) × (n ≤ 256)) ⌝ }
-    ensures { λ r. ⌜ r ≡ movedOut (now (order .entry)) p n ⌝ }
+    ensures { λ _. ⌜ now (order .exit) ≡ movedOut (now (order .entry)) p n ⌝ }
 {
-    let mut next = [0u8; 256];
-    copy_from(&mut next[..], 0, order, 0, p);
-    copy_from(&mut next[..], p, order, p + 1, n - 1 - p);
-    copy_from(&mut next[..], n - 1, order, p, 1);
-    copy_from(&mut next[..], n, order, n, 256 - n);
-    next
+    let slot = order[p];
+    move_down(order, p, p + 1, n - 1 - p);
+    order[n - 1] = slot;
 }

@@ -1,6 +1,5 @@
 pub mod BrokenLaws
 pub mod Cut
-pub mod HeldLaws
 pub mod Large
 pub mod Order
 pub mod Put

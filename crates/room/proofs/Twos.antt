@@ -5,9 +5,9 @@ use mathlib.Core.List.{List, [], _∷_, _++_, append-nil, append-assoc}
 use native.Mathlib.Numerals.{add-one}
 use native.Mathlib.Omega.{arith}
 use lib.ListN.{length, take, getD, length-append}
-use lib.Seq.{length-take-le, take-suc, take-length, drop-at, getD-take}
+use lib.Seq.{length-take-le, take-suc, drop-at}
 use Rattle.numbers.specs.BigEndian.{uint, bytes}
-use Rattle.numbers.proofs.BigEndian.{length-bytes, uint-bytes, uint-drop, uint-ext}
+use Rattle.numbers.proofs.BigEndian.{length-bytes, uint-bytes, uint-drop}
 use Rattle.numbers.specs.Spliced.{spliced}
 use Rattle.numbers.proofs.Spliced.{spliced-twice}
 use Rattle.room.specs.Parts.{twos, twosBytes}
@@ -55,20 +55,5 @@ twos-written (suc n) xs rest small h =
     ap₂ (λ (l : List ℕ) (x : ℕ). l ++ x ∷ []) (twos-written n xs rest small (omega arith)) (uint-twosBytes xs rest n (omega arith) (small n))
     ∙ sym (take-suc xs n 0 (omega arith))
 
-pub twos-twosBytes : (xs rest : List ℕ) → ((i : ℕ) → getD xs i 0 < 65536) → twos (length xs) (twosBytes xs ++ rest) ≡ xs
-twos-twosBytes xs rest small = twos-written (length xs) xs rest small (omega arith) ∙ take-length xs
-
 pub twos-prefix : (n : ℕ) (xs : List ℕ) → ((i : ℕ) → getD xs i 0 < 65536) → n ≤ length xs → twos n (twosBytes xs) ≡ take n xs
 twos-prefix n xs small h = ap (twos n) (sym (append-nil (twosBytes xs))) ∙ twos-written n xs [] small h
-
--- ---- the same bytes are the same numbers
-
-pub twos-ext : (n : ℕ) (l l' : List ℕ) → ((k : ℕ) → k < n * 2 → getD l k 0 ≡ getD l' k 0) → twos n l ≡ twos n l'
-unfolding twos
-twos-ext zero l l' same = refl
-twos-ext (suc n) l l' same =
-    ap₂ (λ (k : List ℕ) (x : ℕ). k ++ x ∷ []) (twos-ext n l l' (λ k h. same k (omega arith)))
-    (uint-ext 2 l (n * 2) l' (n * 2) (λ k h. same (n * 2 + k) (omega arith)))
-
-pub twos-take : (n m : ℕ) (l : List ℕ) → n * 2 ≤ m → twos n (take m l) ≡ twos n l
-twos-take n m l h = twos-ext n (take m l) l λ k j. getD-take m l k 0 (omega arith)

@@ -12,8 +12,8 @@ use Rattle.numbers.proofs.BigEndian.{length-bytes, uint-bytes, uint-drop, uint-
 use Rattle.reading.specs.declared.Reading.{Reading}
 use Rattle.reading.specs.Reading.{readingBytes}
 use Rattle.room.specs.Parts.{part, put, cut, below, twosBytes}
-use Rattle.room.specs.Layout.{widths, head, slotsPart, rowsPart, limit, parts}
-use Rattle.room.specs.Written.{opened, Opening, Aside, stepped, slotsWith, rowsWith, Stepping}
+use Rattle.room.specs.Layout.{widths, head, limit, parts}
+use Rattle.room.specs.Written.{opened, Opening, Aside, stepped, counted, slotsWith, rowsWith, Stepping}
 use Rattle.room.proofs.Cut.{cut-written, cut-spliced, cut-spliced-whole}
 use Rattle.room.proofs.Put.{length-part}
 use Rattle.room.proofs.Twos.{uint-twosBytes}
@@ -58,18 +58,34 @@ module _ (E T rules conditions : ℕ) (book rulePlaces ruleConditions conditionP
       ∙ ap (over 1 (λ p. spliced p 0 book))
       (cut-written ws l0 l1 _ 0 16 0 e1 k1 (omega arith) (omega arith) refl refl)))))))
 
--- ---- a room after a step: six writes, and two more where a reading came
+-- ---- what a step counts: three writes
 
-module _ (T : ℕ) (s : Aside) (l0 l1 l2 l3 l4 l5 l6 : List ℕ) (asked : Stepping l0 T s)
+module _ (T readings tokens : ℕ) (ends completes l0 l1 l2 l3 : List ℕ) (large : 18288 ≤ length l0)
+    (e1 : l1 ≡ put l0 8688 64 (twosBytes ends)) (k1 : length l1 ≡ length l0)
+    (e2 : l2 ≡ put l1 8752 64 (twosBytes completes)) (k2 : length l2 ≡ length l1)
+    (e3 : l3 ≡ put l2 0 16 (spliced (part l2 0 16) 4 (bytes 2 readings ++ bytes 2 tokens))) (k3 : length l3 ≡ length l2) where
+  pub counted-written : cut 0 (widths T) l3 ≡ counted readings tokens ends completes (cut 0 (widths T) l0)
+  unfolding counted
+  counted-written =
+      let ws : List ℕ = widths T in
+      cut-written ws l2 l3 _ 0 16 0 e3 k3 (omega arith) (omega arith) refl refl
+      ∙ ap (over 0 (λ (p : List ℕ). spliced p 4 (bytes 2 readings ++ bytes 2 tokens)))
+      (cut-written ws l1 l2 (twosBytes completes) 8752 64 6 e2 k2 (omega arith) (omega arith) refl refl
+      ∙ ap (over 6 (λ p. twosBytes completes))
+      (cut-written ws l0 l1 (twosBytes ends) 8688 64 5 e1 k1 (omega arith) (omega arith) refl refl))
+
+-- ---- a room after an addition: five writes, and what is counted
+
+module _ (T : ℕ) (s : Aside) (slot : ℕ) (r : Reading) (row l0 l1 l2 l3 l4 l5 l6 : List ℕ) (asked : Stepping l0 T s) (wide : length row ≡ 24)
     (e1 : l1 ≡ spliced l0 18288 (take (s .tokens) (s .nodes))) (k1 : length l1 ≡ length l0)
     (e2 : l2 ≡ spliced l1 (18288 + T) (take (s .tokens) (s .lasts))) (k2 : length l2 ≡ length l1)
-    (e3 : l3 ≡ put l2 8688 64 (twosBytes (s .ends))) (k3 : length l3 ≡ length l2)
-    (e4 : l4 ≡ put l3 8752 64 (twosBytes (s .completes))) (k4 : length l4 ≡ length l3)
-    (e5 : l5 ≡ spliced l4 8816 (take 256 (s .order))) (k5 : length l5 ≡ length l4)
-    (e6 : l6 ≡ put l5 0 16 (spliced (part l5 0 16) 4 (bytes 2 (s .readings) ++ bytes 2 (s .tokens)))) (k6 : length l6 ≡ length l5) where
-  pub stepped-written : cut 0 (widths T) l6 ≡ stepped s (slotsPart (cut 0 (widths T) l0)) (rowsPart (cut 0 (widths T) l0)) (cut 0 (widths T) l0)
-  unfolding stepped
-  stepped-written =
+    (e3 : l3 ≡ spliced l2 8816 (take 256 (s .order))) (k3 : length l3 ≡ length l2)
+    (e4 : l4 ≡ put l3 9072 3072 (spliced (part l3 9072 3072) (slot * 12) (readingBytes r))) (k4 : length l4 ≡ length l3)
+    (e5 : l5 ≡ put l4 12144 6144 (spliced (part l4 12144 6144) (slot * 24) (take 24 row))) (k5 : length l5 ≡ length l4)
+    (e6 : 18288 + T * 2 ≤ length l5 → cut 0 (widths T) l6 ≡ counted (s .readings) (s .tokens) (s .ends) (s .completes) (cut 0 (widths T) l5)) where
+  pub added-written : cut 0 (widths T) l6 ≡ stepped s (slotsWith (cut 0 (widths T) l0) slot r) (rowsWith (cut 0 (widths T) l0) slot row) (cut 0 (widths T) l0)
+  unfolding counted stepped
+  added-written =
       let ws : List ℕ = widths T in
       let order = s .order in
       let nodes = take (s .tokens) (s .nodes) in
@@ -78,30 +94,20 @@ module _ (T : ℕ) (s : Aside) (l0 l1 l2 l3 l4 l5 l6 : List ℕ) (asked : Steppi
       let n : length nodes ≡ s .tokens = length-take-le (s .tokens) (s .nodes) (asked .nodes) in
       let t : length lasts ≡ s .tokens = length-take-le (s .tokens) (s .lasts) (asked .lasts) in
       let middle : 18288 + T ≡ 18288 + T + 0 = omega arith in
-      cut-written ws l5 l6 _ 0 16 0 e6 k6 (omega arith) (omega arith) refl refl
-      ∙ ap (over 0 (λ (p : List ℕ). spliced p 4 (bytes 2 (s .readings) ++ bytes 2 (s .tokens))))
-      (cut-spliced-whole ws l4 l5 order 8816 256 7 (e5 ∙ ap (spliced l4 8816) (take-all 256 order (omega arith))) (asked .order) (omega arith) (omega arith) refl refl
+      let whole : take 24 row ≡ row = take-all 24 row (omega arith) in
+      let r5 : l5 ≡ put l4 12144 6144 (spliced (part l4 12144 6144) (slot * 24) row) =
+      e5 ∙ ap (λ (x : List ℕ). put l4 12144 6144 (spliced (part l4 12144 6144) (slot * 24) x)) whole in
+      e6 (omega arith)
+      ∙ ap (counted (s .readings) (s .tokens) (s .ends) (s .completes))
+      (cut-written ws l4 l5 _ 12144 6144 9 r5 k5 (omega arith) (omega arith) refl refl
+      ∙ ap (over 9 (λ (p : List ℕ). spliced p (slot * 24) row))
+      (cut-written ws l3 l4 _ 9072 3072 8 e4 k4 (omega arith) (omega arith) refl refl
+      ∙ ap (over 8 (λ (p : List ℕ). spliced p (slot * 12) (readingBytes r)))
+      (cut-spliced-whole ws l2 l3 order 8816 256 7 (e3 ∙ ap (spliced l2 8816) (take-all 256 order (omega arith))) (asked .order) (omega arith) (omega arith) refl refl
       ∙ ap (over 7 (λ p. order))
-      (cut-written ws l3 l4 (twosBytes (s .completes)) 8752 64 6 e4 k4 (omega arith) (omega arith) refl refl
-      ∙ ap (over 6 (λ p. twosBytes (s .completes)))
-      (cut-written ws l2 l3 (twosBytes (s .ends)) 8688 64 5 e3 k3 (omega arith) (omega arith) refl refl
-      ∙ ap (over 5 (λ p. twosBytes (s .ends)))
       (cut-spliced ws l1 l2 lasts (18288 + T) T 11 0 (e2 ∙ ap (λ (a : ℕ). spliced l1 a lasts) middle) (omega arith) (omega arith) (omega arith) refl (omega arith)
       ∙ ap (over 11 (λ (p : List ℕ). spliced p 0 lasts))
       (cut-spliced ws l0 l1 nodes 18288 T 10 0 e1 (omega arith) (omega arith) (omega arith) refl refl)))))
-
-pub added-written : (T : ℕ) (s : Aside) (slot : ℕ) (r : Reading) (row : List ℕ) (ps : List (List ℕ)) (l1 l2 l3 : List ℕ) → 18288 ≤ length l1
-    → cut 0 (widths T) l1 ≡ stepped s (slotsPart ps) (rowsPart ps) ps
-    → l2 ≡ put l1 9072 3072 (spliced (part l1 9072 3072) (slot * 12) (readingBytes r)) → length l2 ≡ length l1
-    → l3 ≡ put l2 12144 6144 (spliced (part l2 12144 6144) (slot * 24) row) → length l3 ≡ length l2
-    → cut 0 (widths T) l3 ≡ stepped s (slotsWith ps slot r) (rowsWith ps slot row) ps
-unfolding stepped
-added-written T s slot r row ps l1 l2 l3 large e1 e2 k2 e3 k3 =
-    let ws : List ℕ = widths T in
-    cut-written ws l2 l3 _ 12144 6144 9 e3 k3 (omega arith) (omega arith) refl refl
-    ∙ ap (over 9 (λ (p : List ℕ). spliced p (slot * 24) row))
-    (cut-written ws l1 l2 _ 9072 3072 8 e2 k2 (omega arith) (omega arith) refl refl
-    ∙ ap (over 8 (λ (p : List ℕ). spliced p (slot * 12) (readingBytes r))) e1)
 
 -- ---- what the header then says
 
@@ -125,26 +131,26 @@ opened-number E T L R C e t l r c k h =
 
 -- the numbers after a step: the readings and the tokens counted, the others as before
 module _ (h : List ℕ) (n t : ℕ) (long : length h ≡ 16) where
-  abbrev counted : List ℕ
-  counted = spliced h 4 (bytes 2 n ++ bytes 2 t)
+  abbrev anew : List ℕ
+  anew = spliced h 4 (bytes 2 n ++ bytes 2 t)
 
   length-counts : length (bytes 2 n ++ bytes 2 t) ≡ 4
   length-counts = omega (arith, length-append (bytes 2 n) (bytes 2 t), length-bytes 2 n, length-bytes 2 t)
 
-  pub counted-readings : n < 65536 → uint 2 counted 4 ≡ n
+  pub counted-readings : n < 65536 → uint 2 anew 4 ≡ n
   counted-readings small = uint-spliced-in h 4 (bytes 2 n ++ bytes 2 t) (omega arith) 2 0 (omega (arith, length-counts)) ∙ uint-bytes 2 n (bytes 2 t) small
 
-  pub counted-tokens : t < 65536 → uint 2 counted 6 ≡ t
+  pub counted-tokens : t < 65536 → uint 2 anew 6 ≡ t
   counted-tokens small =
       uint-spliced-in h 4 (bytes 2 n ++ bytes 2 t) (omega arith) 2 2 (omega (arith, length-counts))
       ∙ sym (uint-drop 2 2 (bytes 2 n ++ bytes 2 t) 0)
       ∙ ap (λ (b : List ℕ). uint 2 b 0) (drop-at (bytes 2 n) (bytes 2 t) 2 (length-bytes 2 n) ∙ sym (append-nil (bytes 2 t)))
       ∙ uint-bytes 2 t [] small
 
-  pub counted-before : (k : ℕ) → k < 2 → uint 2 counted (k * 2) ≡ uint 2 h (k * 2)
+  pub counted-before : (k : ℕ) → k < 2 → uint 2 anew (k * 2) ≡ uint 2 h (k * 2)
   counted-before k l = uint-spliced-before h 4 (bytes 2 n ++ bytes 2 t) (omega arith) 2 (k * 2) (omega arith)
 
-  pub counted-after : (k : ℕ) → 4 ≤ k → uint 2 counted (k * 2) ≡ uint 2 h (k * 2)
+  pub counted-after : (k : ℕ) → 4 ≤ k → uint 2 anew (k * 2) ≡ uint 2 h (k * 2)
   counted-after k l = uint-spliced-after h 4 (bytes 2 n ++ bytes 2 t) (omega arith) 2 (k * 2) (omega (arith, length-counts))
 
 -- a room whose header says the limit by which it was cut

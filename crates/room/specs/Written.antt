@@ -8,7 +8,7 @@ use Rattle.numbers.specs.Spliced.{spliced}
 use Rattle.reading.specs.declared.Reading.{Reading}
 use Rattle.reading.specs.Reading.{readingBytes}
 use Rattle.room.specs.Parts.{below, twosBytes}
-use Rattle.room.specs.Layout.{head, bookPart, conditionPlacesPart, rulePlacesPart, ruleConditionsPart, slotsPart, rowsPart, nodesPart, lastsPart, restPart}
+use Rattle.room.specs.Layout.{head, bookPart, conditionPlacesPart, rulePlacesPart, ruleConditionsPart, orderPart, slotsPart, rowsPart, nodesPart, lastsPart, restPart}
 
 -- the parts of a room just opened, given the parts before: the book and its index, every slot free, nothing else; what holds nothing stays as it was
 unfoldable pub opened : ℕ → ℕ → List ℕ → ℕ → ℕ → List ℕ → List ℕ → List ℕ → List (List ℕ) → List (List ℕ)
@@ -61,6 +61,24 @@ stepped s slots rows ps =
     ∷ rows
     ∷ spliced (nodesPart ps) 0 (take (s .tokens) (s .nodes))
     ∷ spliced (lastsPart ps) 0 (take (s .tokens) (s .lasts))
+    ∷ restPart ps
+    ∷ []
+
+-- the parts of a room whose tables of rules, readings present and tokens are counted anew
+unfoldable pub counted : ℕ → ℕ → List ℕ → List ℕ → List (List ℕ) → List (List ℕ)
+counted readings tokens ends completes ps =
+    spliced (head ps) 4 (bytes 2 readings ++ bytes 2 tokens)
+    ∷ bookPart ps
+    ∷ conditionPlacesPart ps
+    ∷ rulePlacesPart ps
+    ∷ ruleConditionsPart ps
+    ∷ twosBytes ends
+    ∷ twosBytes completes
+    ∷ orderPart ps
+    ∷ slotsPart ps
+    ∷ rowsPart ps
+    ∷ nodesPart ps
+    ∷ lastsPart ps
     ∷ restPart ps
     ∷ []
 

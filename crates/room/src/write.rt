@@ -7,7 +7,7 @@ ghost use lib.ListN.{length, take, drop, replicate};
 ghost use Rattle.numbers.specs.Spliced.{spliced};
 ghost use Rattle.room.specs.Parts.{cut, below, twosBytes};
 ghost use Rattle.room.specs.Layout.{widths, slotsPart, rowsPart};
-ghost use Rattle.room.specs.Written.{opened, Opening, stepped, slotsWith, rowsWith, Stepping};
+ghost use Rattle.room.specs.Written.{opened, Opening, counted, stepped, slotsWith, rowsWith, Stepping};
 use crate::layout::BOOK;
 use crate::layout::COMPLETES;
 use crate::layout::CONDITION_PLACES;
@@ -103,31 +103,17 @@ fn put_counts(head: &mut [u8], readings: u16, tokens: u16)
     numbers::put_two(head, 6, tokens);
 }
 
-// A removal, written: what the step has worked out aside, into the parts that it concerns. The readings and rows by slot stay.
-pub fn write_removed(
-    room: &mut [u8],
-    most: usize,
-    readings: u16,
-    tokens: u16,
-    ends: &[u16],
-    completes: &[u16],
-    order: &[u8],
-    nodes: &[u8],
-    lasts: &[u8],
-)
-    requires { ⌜ Stepping (now room) most (record { readings = readings; tokens = tokens; ends = now ends; completes = now completes; order = now order; nodes = now nodes; lasts = now lasts }) ⌝ }
-    ensures { λ _. ⌜ cut 0 (widths most) (now (room .exit)) ≡ stepped (record { readings = readings; tokens = tokens; ends = now (ends .entry); completes = now (completes .entry); order = now (order .entry); nodes = now (nodes .entry); lasts = now (lasts .entry) }) (slotsPart (cut 0 (widths most) (now (room .entry)))) (rowsPart (cut 0 (widths most) (now (room .entry)))) (cut 0 (widths most) (now (room .entry))) ⌝ }
+// What a step counts: the tables of rules, and the readings present and the tokens.
+pub fn write_counts(room: &mut [u8], readings: u16, tokens: u16, ends: &[u16], completes: &[u16])
+    requires { ⌜ (18288 ≤ length (now room)) × ((length (now ends) ≡ 32) × (length (now completes) ≡ 32)) ⌝ }
+    ensures { λ _. ⌜ ((T : ℕ) → 18288 + T * 2 ≤ length (now (room .entry)) → cut 0 (widths T) (now (room .exit)) ≡ counted readings tokens (now (ends .entry)) (now (completes .entry)) (cut 0 (widths T) (now (room .entry)))) ⌝ }
 {
-    let n = tokens as usize;
-    copy_at(room, NODES, nodes, n);
-    copy_at(room, NODES + most, lasts, n);
     put_twos(&mut room[ENDS..COMPLETES], ends);
     put_twos(&mut room[COMPLETES..ORDER], completes);
-    copy_at(room, ORDER, order, 256);
     put_counts(&mut room[HEAD..BOOK], readings, tokens);
 }
 
-// An addition, written: besides, the reading and its row at its slot.
+// An addition, written: what the step has worked out aside, into the parts that it concerns.
 pub fn write_added(
     room: &mut [u8],
     most: usize,
@@ -145,18 +131,12 @@ pub fn write_added(
     requires { ⌜ Stepping (now room) most (record { readings = readings; tokens = tokens; ends = now ends; completes = now completes; order = now order; nodes = now nodes; lasts = now lasts }) × (length (now row) ≡ 24) ⌝ }
     ensures { λ _. ⌜ cut 0 (widths most) (now (room .exit)) ≡ stepped (record { readings = readings; tokens = tokens; ends = now (ends .entry); completes = now (completes .entry); order = now (order .entry); nodes = now (nodes .entry); lasts = now (lasts .entry) }) (slotsWith (cut 0 (widths most) (now (room .entry))) slot r) (rowsWith (cut 0 (widths most) (now (room .entry))) slot (now (row .entry))) (cut 0 (widths most) (now (room .entry))) ⌝ }
 {
-    write_removed(
-        room,
-        most,
-        readings,
-        tokens,
-        ends,
-        completes,
-        order,
-        nodes,
-        lasts,
-    );
+    let n = tokens as usize;
+    copy_at(room, NODES, nodes, n);
+    copy_at(room, NODES + most, lasts, n);
+    copy_at(room, ORDER, order, 256);
     let s = slot as usize;
     reading::put_reading(&mut room[SLOTS..ROWS], s, r);
     copy_at(&mut room[ROWS..NODES], s * 24, row, 24);
+    write_counts(room, readings, tokens, ends, completes);
 }

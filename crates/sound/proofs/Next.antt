@@ -19,7 +19,7 @@ use Rattle.sound.proofs.SoundRoom.{testsIn, countsOf}
 abbrev pub slotsNext : Aside → List ℕ
 slotsNext a = take (a .readings) (a .order)
 
--- `slots` and `rows` are the readings and rows by slot that will be written
+-- `slots` and `rows` are the readings and rows by slot that will be written; the tokens were written into the planes `ns` and `ls`
 pub record Next (room : List ℕ) (s : Sound room) (a : Aside) (slots rows : List ℕ) (R : List Reading) (complete : ℕ) : Type 0 where
   pub order-long : length (a .order) ≡ 256
   pub once : Once (a .order)
@@ -28,5 +28,7 @@ pub record Next (room : List ℕ) (s : Sound room) (a : Aside) (slots rows : Lis
   pub ascending : Sorted (Less isLess) R
   pub bits : Bits (slotsNext a) (readingAt slots) (inMemory rows) 0 (s .rules)
   pub fits : bookCount (s .rules) R ≤ limit room
+  pub ns : List ℕ
+  pub ls : List ℕ
   pub told : Told (limit room) (slotsNext a) (readingAt slots) (passSlot (readingAt slots) (inMemory rows) (testsIn room)) (countsOf room s)
-      (replicate 2048 0) (replicate 2048 0) (replicate 32 0) (replicate 32 0) (a .tokens) complete (a .nodes) (a .lasts) (a .ends) (a .completes)
+      ns ls (replicate 32 0) (replicate 32 0) (a .tokens) complete (a .nodes) (a .lasts) (a .ends) (a .completes)

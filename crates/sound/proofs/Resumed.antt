@@ -150,12 +150,12 @@ module _ (room room' : List ℕ) (s : Sound room) (a : Aside) (slots rows : List
   nodes-aside : take (a .tokens) (a .nodes) ≡ nodes made
   nodes-aside =
       ap (take (a .tokens)) (next .told .planes .nodes (omega (arith, fits)))
-      ∙ front-spliced (a .tokens) (replicate 2048 0) (nodes made) (count ∙ sym (length-map made (λ t. t .node)))
+      ∙ front-spliced (a .tokens) (next .ns) (nodes made) (count ∙ sym (length-map made (λ t. t .node)))
 
   lasts-aside : take (a .tokens) (a .lasts) ≡ lasts made
   lasts-aside =
       ap (take (a .tokens)) (next .told .planes .lasts (omega (arith, fits)))
-      ∙ front-spliced (a .tokens) (replicate 2048 0) (lasts made) (count ∙ sym (length-map made (λ t. t .last)))
+      ∙ front-spliced (a .tokens) (next .ls) (lasts made) (count ∙ sym (length-map made (λ t. t .last)))
 
   few-rules : headNumber room 5 ≤ 32
   few-rules = whole-before .rules

@@ -10,17 +10,17 @@ use lib.Seq.{getD-take, getD-drop, take-take}
 use Rattle.numbers.specs.BigEndian.{uint}
 use Rattle.reading.specs.declared.Reading.{Reading}
 use Rattle.room.specs.Parts.{part, cut, twos}
-use Rattle.room.specs.Layout.{widths, headNumber, limit, parts, slotsPart, rowsPart, nodesPart, lastsPart}
+use Rattle.room.specs.Layout.{widths, headNumber, limit, parts, nodesPart, lastsPart}
 use Rattle.room.specs.Broken.{broken, sum}
 use Rattle.room.specs.Written.{Aside, stepped, slotsWith, rowsWith, Stepping}
 use Rattle.room.proofs.BrokenLaws.{Whole, headNumber-at, not-broken-whole}
 use Rattle.room.proofs.Large.{large-part}
 use Rattle.room.proofs.Put.{length-part}
 use Rattle.weave.specs.View.{seen}
-use Rattle.rete.specs.Row.{RowOf, bookFlags, movedIn, movedOut}
+use Rattle.rete.specs.Row.{RowOf, bookFlags, movedIn}
 use Rattle.weave.specs.Weave.{Lent}
-use Rattle.rete.specs.Rules.{Weaves, SiftsAll, Tables}
-use Rattle.step.specs.Worked.{bookIn, slotIn, AddedAt, RemovedAt}
+use Rattle.rete.specs.Rules.{Weaves, Tables}
+use Rattle.step.specs.Worked.{bookIn, slotIn, AddedAt}
 
 -- what lies before the tokens is in the room
 pub in-room : (room : List ℕ) → broken room ≡ false → {e : ℕ} → e ≤ 18288 → e ≤ length room
@@ -47,7 +47,7 @@ known room h t r s =
     }
 
 -- what is lent to be filled
-abbrev zeros : ℕ → List ℕ
+abbrev pub zeros : ℕ → List ℕ
 zeros n = replicate n 0
 
 length-zeros : (n : ℕ) → length (zeros n) ≡ n
@@ -69,10 +69,10 @@ module _ {room : List ℕ} {T n rules : ℕ} (k : Known room T n rules) where
   pub fixed-part : (a w : ℕ) → a + w ≤ 18288 → length (part room a w) ≡ w
   fixed-part a w h = large-part room a w h (omega arith)
 
-  pub nodes-long : length (nodesLent room T) ≡ T
+  nodes-long : length (nodesLent room T) ≡ T
   nodes-long = length-part room 18288 (18288 + T - 18288) (omega arith) ∙ omega arith
 
-  pub lasts-long : length (lastsLent room T) ≡ T
+  lasts-long : length (lastsLent room T) ≡ T
   lasts-long = length-part room (18288 + T) (18288 + T + T - (18288 + T)) (omega arith) ∙ omega arith
 
   -- ---- the parts as they are lent
@@ -93,7 +93,7 @@ module _ {room : List ℕ} {T n rules : ℕ} (k : Known room T n rules) where
       let w : 16 + L - 16 ≡ headNumber room 4 = omega arith in
       ap (part room 16) w ∙ sym (take-take (headNumber room 4) 8192 (drop 16 room) (k .whole .book))
 
-  slot-read : (p : ℕ) → p < 256 → getD room (8816 + p) 0 ≡ slotIn room p
+  pub slot-read : (p : ℕ) → p < 256 → getD room (8816 + p) 0 ≡ slotIn room p
   slot-read p h = sym (getD-take 256 (drop 8816 room) p 0 h ∙ getD-drop 8816 room p 0)
 
   -- ---- what the walk over the rules asks
@@ -103,7 +103,7 @@ module _ {room : List ℕ} {T n rules : ℕ} (k : Known room T n rules) where
       let total : sum (take rules (part room 8656 32)) ≡ headNumber room 6 = rw (k .rules-is) (k .whole .total) in
       omega arith
 
-  pub planes-long : T ≤ length (zeros 2048)
+  planes-long : T ≤ length (zeros 2048)
   planes-long = omega (arith, length-zeros 2048)
 
   pub lent : (row order : List ℕ) → length row ≡ 24 → length order ≡ 256 → n < 256
@@ -120,8 +120,10 @@ module _ {room : List ℕ} {T n rules : ℕ} (k : Known room T n rules) where
         few = omega arith;
       }
 
-  pub tables : Tables (part room 8656 32) (part room 8688 64) (part room 8752 64) (nodesLent room T) (lastsLent room T) (zeros 32) (zeros 32) rules
-  tables =
+  -- of tokens whose nodes and last slots are as many as the limit says
+  pub tables-of : {olds oldl : List ℕ} → length olds ≡ T → length oldl ≡ T
+      → Tables (part room 8656 32) (part room 8688 64) (part room 8752 64) olds oldl (zeros 32) (zeros 32) rules
+  tables-of nodes lasts =
       record {
         few = omega arith;
         counts-long = omega (arith, fixed-part 8656 32 (omega arith));
@@ -131,8 +133,11 @@ module _ {room : List ℕ} {T n rules : ℕ} (k : Known room T n rules) where
         ms-long = length-zeros 32;
         each = λ r h. k .whole .counts r (omega arith);
         total = conditions-few;
-        ends-fit = λ r h. (omega (arith, nodes-long, k .whole .ends r (omega arith)), omega (arith, lasts-long, k .whole .ends r (omega arith)));
+        ends-fit = λ r h. (omega (arith, k .whole .ends r (omega arith)), omega (arith, k .whole .ends r (omega arith)));
       }
+
+  pub tables : Tables (part room 8656 32) (part room 8688 64) (part room 8752 64) (nodesLent room T) (lastsLent room T) (zeros 32) (zeros 32) rules
+  tables = tables-of nodes-long lasts-long
 
   -- ---- what the writing asks
 
@@ -148,24 +153,6 @@ module _ {room : List ℕ} {T n rules : ℕ} (k : Known room T n rules) where
         order = order;
         nodes = omega (arith, planes-long);
         lasts = omega (arith, planes-long);
-      }
-
-  -- ---- a removal
-
-  pub removed-at : {p tokens complete : ℕ} {room' : List ℕ} (s : Aside) → p < n → s .readings ≡ n - 1 → s .tokens ≡ tokens → s .order ≡ movedOut (part room 8816 256) p n
-      → SiftsAll (part room 12144 6144) (nodesLent room T) (lastsLent room T) (getD room (8816 + p) 0) T (twos rules (part room 8688 64)) (twos rules (part room 8752 64)) (take rules (part room 8656 32))
-      (zeros 2048) (zeros 2048) (zeros 32) (zeros 32) tokens complete (s .nodes) (s .lasts) (s .ends) (s .completes)
-      → cut 0 (widths T) room' ≡ stepped s (slotsPart (cut 0 (widths T) room)) (rowsPart (cut 0 (widths T) room)) (cut 0 (widths T) room)
-      → length room' ≡ length room → RemovedAt room p tokens complete room'
-  removed-at {p} s h readings tokens order sifts written long =
-      record {
-        aside = s;
-        readings-are = omega arith;
-        tokens-are = tokens;
-        order-is = rw (k .n-is) at order;
-        sifted = rw (nodes-lent, lasts-lent, slot-read p (omega arith), k .T-is, k .rules-is) at sifts;
-        written = rw (k .T-is) at written;
-        long = long;
       }
 
   -- ---- an addition

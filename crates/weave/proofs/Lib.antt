@@ -1,7 +1,9 @@
 pub mod BuiltLaws
 pub mod CountLaws
+pub mod FindLaws
 pub mod Grown
 pub mod LentLaws
+pub mod MovedLaws
 pub mod OldLaws
 pub mod Planes
 pub mod Settled
