@@ -5,6 +5,7 @@ pub mod Grown
 pub mod LentLaws
 pub mod MovedLaws
 pub mod OldLaws
+pub mod Pairs
 pub mod Planes
 pub mod Settled
 pub mod SplicedLaws
