@@ -228,7 +228,7 @@ module _ (room : List ℕ) where
         )
 
     -- rule by rule, by the numbers as they are read
-    tables-read : {rules tokens conditions : ℕ} → rules ≡ uint 2 room 10 → tokens ≡ uint 2 room 6 → conditions ≡ uint 2 room 12 → rules ≤ 32
+    pub tables-read : {rules tokens conditions : ℕ} → rules ≡ uint 2 room 10 → tokens ≡ uint 2 room 6 → conditions ≡ uint 2 room 12 → rules ≤ 32
         → (tablesFit room ≡ true) ↔ (((i : ℕ) → i < rules → RuleFits room tokens i) × (sum (take rules (part room 8656 32)) ≡ conditions))
     tables-read {rules} {tokens} {conditions} r t c few =
         let r' : rules ≡ headNumber room 5 = r ∙ sym (headNumber-at room 5 (omega arith)) in

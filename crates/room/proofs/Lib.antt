@@ -1,4 +1,5 @@
 pub mod BrokenLaws
+pub mod Counts
 pub mod Cut
 pub mod Large
 pub mod Order

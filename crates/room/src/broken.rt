@@ -1,9 +1,10 @@
 // The rule behind refusal 10, over the bytes of a room. It stands before every call, so it looks at no token.
+ghost use mathlib.Core.Bool.{true};
 ghost use mathlib.Core.Path.{_≡_};
 ghost use Prim.Native.Nat.{ℕ, _+_, _*_, _/_, _%_, _≤_, _<_};
-ghost use lib.ListN.{length, getD};
+ghost use lib.ListN.{length, take, getD};
 ghost use Rattle.numbers.specs.BigEndian.{uint};
-ghost use Rattle.room.specs.Broken.{headFits, tablesFit, broken};
+ghost use Rattle.room.specs.Broken.{sum, headFits, tablesFit, broken};
 use crate::layout::COMPLETES;
 use crate::layout::ENDS;
 use crate::layout::ORDER;
@@ -67,38 +68,91 @@ fn turn(y: u16) -> u16
     y % 256 * 256 + y / 256
 }
 
-// Whether the tables are in their ranges, of a room with many rules: no turn of the loop leaves it, so that it is compiled for wide registers.
-fn many_fit(room: &[u8], rules: usize) -> bool
-    requires { ⌜ (18288 ≤ length (now room)) × ((rules ≡ uint 2 (now room) 10) × (rules ≤ 32)) ⌝ }
-    ensures { λ r. ⌜ r ≡ tablesFit (now (room .entry)) ⌝ }
+// Whether no conditions are counted behind the last rule.
+fn none_behind(counts: &[u8], rules: usize) -> bool
+    requires { ⌜ (length (now counts) ≡ 32) × (rules ≤ 32) ⌝ }
+    ensures { λ r. ⌜ (r ≡ true → (i : ℕ) → rules ≤ i → i < 32 → getD (now (counts .entry)) i 0 ≡ 0) ⌝ }
+{
+    let mut i = rules;
+    while i < 32 {
+        if counts[i] != 0 {
+            return false;
+        }
+        i += 1;
+    }
+    true
+}
+
+// Whether it is seen at once that the rules have 1 to 6 conditions each, `conditions` in all: where no place behind them has any, and just these places have some.
+fn counts_fit(counts: &[u8], rules: usize, conditions: usize) -> bool
+    requires { ⌜ (length (now counts) ≡ 32) × (rules ≤ 32) ⌝ }
+    ensures { λ r. ⌜ (r ≡ true → ((i : ℕ) → i < rules → (1 ≤ getD (now (counts .entry)) i 0) × (getD (now (counts .entry)) i 0 ≤ 6)) × (sum (take rules (now (counts .entry))) ≡ conditions)) ⌝ }
+{
+    let mut wrong: u8 = 0;
+    let mut empty: u8 = 0;
+    let mut total: u8 = 0;
+    let mut i: usize = 0;
+    while i < 32 {
+        let k = counts[i];
+        if k <= 6 {
+            total += k;
+        } else {
+            wrong += 1;
+        }
+        if k == 0 {
+            empty += 1;
+        }
+        i += 1;
+    }
+    if wrong != 0 {
+        return false;
+    }
+    if (empty as usize) + rules != 32 {
+        return false;
+    }
+    if (total as usize) != conditions {
+        return false;
+    }
+    none_behind(counts, rules)
+}
+
+// Whether all 32 numbers of both other tables are at most the tokens.
+fn ends_fit(room: &[u8]) -> bool
+    requires { ⌜ 18288 ≤ length (now room) ⌝ }
+    ensures { λ r. ⌜ (r ≡ true → (i : ℕ) → i < 32 → (uint 2 (now (room .entry)) (8688 + i * 2) ≤ uint 2 (now (room .entry)) 6) × (uint 2 (now (room .entry)) (8752 + i * 2) ≤ uint 2 (now (room .entry)) 6)) ⌝ }
 {
     let tokens = numbers::two_at(room, 6) as u16;
     let ends = turned(&room[ENDS..COMPLETES]);
     let fulls = turned(&room[COMPLETES..ORDER]);
     let mut wrong: u16 = 0;
-    let mut total: u16 = 0;
     let mut i: usize = 0;
-    while i < rules {
-        let k = room[RULE_CONDITIONS + i] as u16;
-        let e = turn(ends[i]);
-        let m = turn(fulls[i]);
-        if k < 1 || 6 < k {
+    while i < 32 {
+        if tokens < turn(ends[i]) {
             wrong += 1;
         }
-        if tokens < e {
+        if tokens < turn(fulls[i]) {
             wrong += 1;
         }
-        if tokens < m {
-            wrong += 1;
-        }
-        total += k;
         i += 1;
     }
-    wrong == 0 && (total as usize) == numbers::two_at(room, 12)
+    wrong == 0
 }
 
-// The same of a room with few rules, one after the other.
-fn few_fit(room: &[u8], rules: usize) -> bool
+// Whether it is seen at once that the tables are in their ranges, those behind the last rule too, as this library leaves them. The loops have 32 turns and no way out: they are compiled for
+// wide registers.
+fn all_fit(room: &[u8], rules: usize) -> bool
+    requires { ⌜ (18288 ≤ length (now room)) × ((rules ≡ uint 2 (now room) 10) × (rules ≤ 32)) ⌝ }
+    ensures { λ r. ⌜ (r ≡ true → tablesFit (now (room .entry)) ≡ true) ⌝ }
+{
+    let conditions = numbers::two_at(room, 12);
+    if !counts_fit(&room[RULE_CONDITIONS..ENDS], rules, conditions) {
+        return false;
+    }
+    ends_fit(room)
+}
+
+// Whether the tables are in their ranges, rule after rule.
+fn each_fits(room: &[u8], rules: usize) -> bool
     requires { ⌜ (18288 ≤ length (now room)) × ((rules ≡ uint 2 (now room) 10) × (rules ≤ 32)) ⌝ }
     ensures { λ r. ⌜ r ≡ tablesFit (now (room .entry)) ⌝ }
 {
@@ -131,10 +185,13 @@ fn tables_fit(room: &[u8]) -> bool
     ensures { λ r. ⌜ r ≡ tablesFit (now (room .entry)) ⌝ }
 {
     let rules = numbers::two_at(room, 10);
-    if rules < 8 {
-        return few_fit(room, rules);
+    // Of few rules it is cheaper to look at each.
+    if 8 <= rules {
+        if all_fit(room, rules) {
+            return true;
+        }
     }
-    many_fit(room, rules)
+    each_fits(room, rules)
 }
 
 // Whether a room is broken: shorter than the formula for its stored limits, or a stored limit, count or link outside its range.

@@ -1,4 +1,4 @@
--- `room::broken::few_fit` meets its contract. The loop's invariant: the first i rules fit, and `total` is the sum of their conditions, so at most 6 for each.
+-- `room::broken::each_fits` meets its contract. The loop's invariant: the first i rules fit, and `total` is the sum of their conditions, so at most 6 for each.
 -- The measure is how many rules are left. Assumes nothing.
 use Prim.Native.Nat.{ℕ, _+_, _-_, _*_, _≤_, _<_}
 use mathlib.Core.Path.{_≡_, refl, sym}
@@ -10,8 +10,8 @@ use lib.ListN.{take}
 use Rattle.room.specs.Parts.{part}
 use Rattle.room.specs.Broken.{sum, tablesFit}
 use Rattle.room.proofs.BrokenLaws.{RuleFits, total-more, some-unfit, all-fit}
-use Rattle.room.proofs.broken.few_fit.Statement.{statement}
-use Rattle.room.proofs.broken.few_fit.Tie as tie
+use Rattle.room.proofs.broken.each_fits.Statement.{statement}
+use Rattle.room.proofs.broken.each_fits.Tie as tie
 
 abbrev Inv-loop : tie.InvT-loop
 Inv-loop room rules tokens total₀ i₀ total i =
@@ -111,8 +111,8 @@ returns-5 c =
     (λ k h. l .loop .inv .1 .1 .1 k (omega arith))
     (rw e at (l .loop .inv .1 .0))
 
-pub few-fit-spec : {M : Type 1} → statement M
-few-fit-spec =
+pub each-fits-spec : {M : Type 1} → statement M
+each-fits-spec =
     tie.close
     (tie.spec
     Inv-loop
