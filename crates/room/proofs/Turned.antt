@@ -5,9 +5,8 @@ use mathlib.Core.Path.{_≡_, ap, _∙_}
 use mathlib.Core.List.{List}
 use native.Mathlib.Nat.{add-zero}
 use native.Mathlib.Omega.{arith}
-use borrow.Author.Count.{below-more}
-use lib.ListN.{length, drop, getD, set}
-use lib.Seq.{getD-set-same, getD-set-other, getD-take, getD-drop}
+use lib.ListN.{drop, getD}
+use lib.Seq.{getD-take, getD-drop}
 use Rattle.numbers.specs.BigEndian.{uint}
 use Rattle.room.specs.Parts.{part}
 
@@ -18,14 +17,6 @@ turnedAt table k = getD table (k * 2) 0 + getD table (k * 2 + 1) 0 * 256
 -- the first n of them
 abbrev pub Turned : List ℕ → List ℕ → ℕ → Type 0
 Turned ys table n = (k : ℕ) → k < n → getD ys k 0 ≡ turnedAt table k
-
-pub turned-set : (ys table : List ℕ) (i : ℕ) → i < length ys → Turned ys table i → Turned (set ys i (turnedAt table i)) table (i + 1)
-turned-set ys table i h so =
-    below-more
-    _
-    i
-    (λ k l. let n : k ≡ i → ⊥ = λ q. omega arith in getD-set-other ys i k (turnedAt table i) 0 n ∙ so k l)
-    (getD-set-same ys i (turnedAt table i) 0 h)
 
 -- one of the table in a room from a on, turned right: the number there
 pub turned-two : (room ys : List ℕ) (a i : ℕ) → ((k : ℕ) → getD room k 0 < 256) → Turned ys (part room a 64) 32 → i < 32

@@ -25,18 +25,17 @@ use Rattle.room.specs.Layout.{headNumber, limit, parts, orderPart, slotsPart, r
 use Rattle.room.specs.Held.{Once, times, held, slotsOf}
 use Rattle.room.proofs.BrokenLaws.{Whole, not-broken-whole}
 use Rattle.room.proofs.Order.{times-append}
-use Rattle.rete.specs.Rules.{Told, rulesBuilt}
+use Rattle.rete.specs.Rules.{Told}
 use Rattle.rete.specs.Row.{movedOut}
 use Rattle.rete.specs.Sift.{others}
 use Rattle.rete.proofs.OrderLaws.{take-movedOut, once-movedOut}
 use Rattle.step.specs.Worked.{slotIn, countsIn, RemovedAt}
 use Rattle.sound.specs.Sound.{Sound}
-use Rattle.sound.proofs.Agree.{Bits, bits-agree, bits-either}
+use Rattle.sound.proofs.Agree.{Bits, bits-either}
 use Rattle.sound.proofs.Next.{Next, slotsNext}
 use Rattle.sound.proofs.Once.{times-mem, once-take}
 use Rattle.sound.proofs.Ranks.{order-long}
-use Rattle.sound.proofs.SoundRoom.{readIn, bitIn, testsIn, passIn, countsOf, sound-bits, sound-tests, sound-counts, sound-completes, sound-stretches, sound-count}
-use Rattle.sound.proofs.TokensBuilt.{length-rulesBuilt}
+use Rattle.sound.proofs.SoundRoom.{readIn, bitIn, passIn, countsOf, sound-bits, sound-counts, sound-completes, sound-stretches, sound-count}
 
 -- ---- a list that names no slot twice
 
@@ -124,14 +123,6 @@ module _ (room : List ℕ) (s : Sound room) (w : Reading) (p : ℕ) (low : p < h
   count-left : bookCount (s .rules) (without isSame w (held room .readings)) ≤ limit room
   count-left = omega (arith, sound-count room s, bookCount-without w (held room .readings) (s .rules), whole .tokens)
 
-  length-left : length (rulesBuilt (others slot os) (readIn room) (passIn room) 0 (countsOf room s)) ≤ limit room
-  length-left =
-      rw (
-        length-rulesBuilt (others slot os) (readIn room) (passIn room) 0 (s .rules)
-            (bits-agree (others slot os) (readIn room) (bitIn room) (testsIn room) 0 (s .rules) bits-left (sound-tests room s)),
-        readings-left,
-      ) count-left
-
   module _ {tokens complete : ℕ} {room' : List ℕ} (at : RemovedAt room p tokens complete room') where
     slots-next : slotsNext (at .aside) ≡ others slot os
     slots-next =
@@ -142,7 +133,7 @@ module _ (room : List ℕ) (s : Sound room) (w : Reading) (p : ℕ) (low : p < h
         (nodesPart (parts room)) (lastsPart (parts room)) (replicate 32 0) (replicate 32 0) tokens complete (at .aside .nodes) (at .aside .lasts) (at .aside .ends) (at .aside .completes)
     told =
         let counts : countsIn room ≡ countsOf room s = sound-counts room s in
-        rw counts at (at .sifted .does os (readIn room) (passIn room) (rw counts (sound-stretches room s)) (rw counts (sound-completes room s)) (rw counts length-left))
+        rw counts at (at .sifted .does os (readIn room) (passIn room) (rw counts (sound-stretches room s)) (rw counts (sound-completes room s)))
 
     pub removing-next : Next room s (at .aside) (slotsPart (parts room)) (rowsPart (parts room)) (without isSame w (held room .readings)) complete
     removing-next = record {

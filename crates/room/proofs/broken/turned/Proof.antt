@@ -6,7 +6,8 @@ use native.Mathlib.Omega.{arith}
 use borrow.Author.Count.{below-none}
 use borrow.Author.Needs.{needs}
 use lib.ListN.{length, getD, length-set}
-use Rattle.room.proofs.Turned.{Turned, turned-set}
+use Rattle.room.proofs.Turned.{Turned, turnedAt}
+use Rattle.room.proofs.Spliced.{filled-set}
 use Rattle.room.proofs.broken.turned.Statement.{statement}
 use Rattle.room.proofs.broken.turned.Tie as tie
 
@@ -65,7 +66,7 @@ loop-less c = search needs
 loop-again : tie.Need-loop-again Inv-loop μ-loop
 loop-again c =
     let l = c .before .before .before .loop in
-    (omega arith, (simp length-set (l .inv .1 .0), turned-set (l .ys) (c .before .before .before .before .args .table .now) (l .i) (omega arith) (l .inv .1 .1)))
+    (omega arith, (simp length-set (l .inv .1 .0), filled-set (turnedAt (c .before .before .before .before .args .table .now)) (l .ys) (l .i) _ (omega arith) (l .inv .1 .1) refl))
 
 returns : tie.Need-returns Inv-loop μ-loop
 returns c =
