@@ -1,4 +1,5 @@
 pub mod Apart
+pub mod CellLaws
 pub mod Decode
 pub mod InPlace
 pub mod Moved
@@ -10,6 +11,7 @@ pub mod RuleLaws
 pub mod SieveLaws
 pub mod SiftLaws
 pub mod Spanned
+pub mod Stems
 pub mod TableLaws
 pub mod TwoPlanes
 pub mod Untouched

@@ -18,7 +18,7 @@ pub fn rank_of(order: &[u8], slots: &[u8], n: usize, w: Reading) -> usize
     let mut low: usize = 0;
     let mut high = n;
     while low < high {
-        let mid = low + (high - low) / 2;
+        let mid = (low + high) / 2;
         let r = reading::reading_at(slots, order[mid] as usize);
         if reading::is_less(r, w) {
             low = mid + 1;

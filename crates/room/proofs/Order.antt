@@ -1,13 +1,16 @@
--- The plain order, in which every slot stands at its own place: how long it is, and that no slot stands there twice. Assumes nothing.
-use Prim.Native.Nat.{ℕ, zero, suc, _+_, _≤_}
-use mathlib.Core.Path.{_≡_, refl}
+-- The plain order, in which every slot stands at its own place: how long it is, which slot stands where, and that no slot stands there twice. Assumes nothing.
+use Prim.Native.Nat.{ℕ, zero, suc, _+_, _≤_, _<_}
+use mathlib.Core.Path.{_≡_, refl, _∙_}
 use mathlib.Core.Bool.{Bool, true, false}
 use mathlib.Core.List.{List, [], _∷_, _++_}
+use mathlib.Core.Logic.{⊎-elim}
+use native.Mathlib.Nat.{eq-or-lt-of-le, le-of-suc-le-suc}
 use native.Mathlib.Numerals.{add-one}
 use native.Mathlib.Omega.{arith}
 use borrow.Author.Tests.{eqb-true, ne-eqb}
 use lib.Dec.{eqb}
-use lib.ListN.{length, length-append}
+use lib.ListN.{length, getD, length-append, List·getD-append}
+use lib.Seq.{getD-at}
 use Rattle.room.specs.Parts.{below}
 use Rattle.room.specs.Held.{times, Once}
 
@@ -15,6 +18,15 @@ pub length-below : (n : ℕ) → length (below n) ≡ n
 unfolding below
 length-below zero = refl
 length-below (suc n) = omega (arith, length-append (below n) (n ∷ []), length-below n)
+
+pub getD-below : (n k : ℕ) → k < n → getD (below n) k 0 ≡ k
+unfolding below
+getD-below zero k h = omega arith
+getD-below (suc n) k h =
+    ⊎-elim
+    (λ (e : k ≡ n). rw e (getD-at (below n) n [] 0 n (length-below n)))
+    (λ (m : k < n). List·getD-append (below n) (n ∷ []) 0 k (rw (length-below n) m) ∙ getD-below n k m)
+    (eq-or-lt-of-le (le-of-suc-le-suc h))
 
 pub below-more : (n : ℕ) → below n ++ n ∷ [] ≡ below (n + 1)
 unfolding below

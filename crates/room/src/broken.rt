@@ -9,6 +9,8 @@ use crate::layout::COMPLETES;
 use crate::layout::ENDS;
 use crate::layout::ORDER;
 use crate::layout::RULE_CONDITIONS;
+use crate::table::turn;
+use crate::table::turned;
 
 // Whether the numbers of the header are in their ranges.
 fn head_fits(room: &[u8]) -> bool
@@ -47,49 +49,47 @@ fn head_fits(room: &[u8]) -> bool
     numbers::two_at(room, 14) == 0
 }
 
-// A table of numbers of two bytes each, as numbers of sixteen bits whose bytes are the wrong way round: so a compiler takes eight of them at once.
-fn turned(table: &[u8]) -> [u16; 32]
-    requires { ⌜ length (now table) ≡ 64 ⌝ }
-    ensures { λ r. ⌜ (length r ≡ 32) × ((i : ℕ) → i < 32 → getD r i 0 ≡ getD (now (table .entry)) (i * 2) 0 + getD (now (table .entry)) (i * 2 + 1) 0 * 256) ⌝ }
-{
-    let mut ys = [0u16; 32];
-    let mut i: usize = 0;
-    while i < 32 {
-        ys[i] = (table[i * 2] as u16) + (table[i * 2 + 1] as u16) * 256;
-        i += 1;
-    }
-    ys
-}
-
-// Such a number the right way round.
-fn turn(y: u16) -> u16
-    ensures { λ r. ⌜ r ≡ y % 256 * 256 + y / 256 ⌝ }
-{
-    y % 256 * 256 + y / 256
-}
-
-// Whether no conditions are counted behind the last rule.
-fn none_behind(counts: &[u8], rules: usize) -> bool
-    requires { ⌜ (length (now counts) ≡ 32) × (rules ≤ 32) ⌝ }
-    ensures { λ r. ⌜ (r ≡ true → (i : ℕ) → rules ≤ i → i < 32 → getD (now (counts .entry)) i 0 ≡ 0) ⌝ }
-{
-    let mut i = rules;
-    while i < 32 {
-        if counts[i] != 0 {
-            return false;
-        }
-        i += 1;
-    }
-    true
-}
-
-// Whether it is seen at once that the rules have 1 to 6 conditions each, `conditions` in all: where no place behind them has any, and just these places have some.
+// Whether it is seen at once that the rules have 1 to 6 conditions each, `conditions` in all: where no place behind them has any.
 fn counts_fit(counts: &[u8], rules: usize, conditions: usize) -> bool
     requires { ⌜ (length (now counts) ≡ 32) × (rules ≤ 32) ⌝ }
     ensures { λ r. ⌜ (r ≡ true → ((i : ℕ) → i < rules → (1 ≤ getD (now (counts .entry)) i 0) × (getD (now (counts .entry)) i 0 ≤ 6)) × (sum (take rules (now (counts .entry))) ≡ conditions)) ⌝ }
 {
+    let places = [
+        0u8,
+        1,
+        2,
+        3,
+        4,
+        5,
+        6,
+        7,
+        8,
+        9,
+        10,
+        11,
+        12,
+        13,
+        14,
+        15,
+        16,
+        17,
+        18,
+        19,
+        20,
+        21,
+        22,
+        23,
+        24,
+        25,
+        26,
+        27,
+        28,
+        29,
+        30,
+        31,
+    ];
+    let few = rules as u8;
     let mut wrong: u8 = 0;
-    let mut empty: u8 = 0;
     let mut total: u8 = 0;
     let mut i: usize = 0;
     while i < 32 {
@@ -99,21 +99,15 @@ fn counts_fit(counts: &[u8], rules: usize, conditions: usize) -> bool
         } else {
             wrong += 1;
         }
-        if k == 0 {
-            empty += 1;
+        if (k == 0) == (places[i] < few) {
+            wrong += 1;
         }
         i += 1;
     }
     if wrong != 0 {
         return false;
     }
-    if (empty as usize) + rules != 32 {
-        return false;
-    }
-    if (total as usize) != conditions {
-        return false;
-    }
-    none_behind(counts, rules)
+    (total as usize) == conditions
 }
 
 // Whether all 32 numbers of both other tables are at most the tokens.

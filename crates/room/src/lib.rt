@@ -2,4 +2,5 @@
 pub mod broken;
 pub mod count;
 pub mod layout;
+pub mod table;
 pub mod write;

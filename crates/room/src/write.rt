@@ -19,6 +19,7 @@ use crate::layout::ROWS;
 use crate::layout::RULE_CONDITIONS;
 use crate::layout::RULE_PLACES;
 use crate::layout::SLOTS;
+use crate::table::put_table;
 use reading::Reading;
 
 // The first n bytes of `from` in a part, from `at` on.
@@ -108,8 +109,8 @@ pub fn write_counts(room: &mut [u8], readings: u16, tokens: u16, ends: &[u16], c
     requires { ⌜ (18288 ≤ length (now room)) × ((length (now ends) ≡ 32) × (length (now completes) ≡ 32)) ⌝ }
     ensures { λ _. ⌜ ((T : ℕ) → 18288 + T * 2 ≤ length (now (room .entry)) → cut 0 (widths T) (now (room .exit)) ≡ counted readings tokens (now (ends .entry)) (now (completes .entry)) (cut 0 (widths T) (now (room .entry)))) ⌝ }
 {
-    put_twos(&mut room[ENDS..COMPLETES], ends);
-    put_twos(&mut room[COMPLETES..ORDER], completes);
+    put_table(&mut room[ENDS..COMPLETES], ends);
+    put_table(&mut room[COMPLETES..ORDER], completes);
     put_counts(&mut room[HEAD..BOOK], readings, tokens);
 }
 

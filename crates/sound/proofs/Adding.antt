@@ -234,6 +234,8 @@ module _ (room : List ℕ) (s : Sound room) (w : Reading) (new : present (stateO
             fits = few;
             ns = replicate 2048 0;
             ls = replicate 2048 0;
+            es = replicate 32 0;
+            ms = replicate 32 0;
             told = rw (is, added .tokens-are)
                 (told-ext (orderWith room w) sees (readingAt slots) (pass (seenIn room row w)) (passSlot (readingAt slots) (inMemory rows) (testsIn room)) (λ t m. next-read t) 192
                 (λ c t x h m. rw (next-bit c x h, next-read x)) total told-seen);

@@ -3,27 +3,18 @@ use Prim.Native.Nat.{ℕ, zero, suc, _+_, _-_, _≤_, _<_}
 use mathlib.Core.Path.{_≡_, refl, sym, ap, _∙_}
 use mathlib.Core.List.{List, [], _∷_, _++_, map}
 use mathlib.Core.Logic.{⊎-elim}
-use native.Mathlib.Nat.{zero-add, eq-or-lt-of-le, le-of-suc-le-suc}
+use native.Mathlib.Nat.{zero-add}
 use native.Mathlib.Omega.{arith}
 use lib.ListN.{length, getD, length-append, length-map, List·getD-append}
-use lib.Seq.{ext-getD, getD-at, getD-append-add}
+use lib.Seq.{ext-getD, getD-append-add}
 use Rattle.room.specs.Parts.{below}
-use Rattle.room.proofs.Order.{length-below}
+use Rattle.room.proofs.Order.{length-below, getD-below}
 use Rattle.weave.proofs.Grown.{le-or-lt}
 
 pub getD-map : {A B : Type 0} (f : A → B) (l : List A) (k : ℕ) (d : A) (e : B) → k < length l → getD (map f l) k e ≡ f (getD l k d)
 getD-map f [] k d e h = absurd (omega arith)
 getD-map f (a ∷ l) zero d e h = refl
 getD-map f (a ∷ l) (suc k) d e h = getD-map f l k d e (omega arith)
-
-pub getD-below : (n k : ℕ) → k < n → getD (below n) k 0 ≡ k
-unfolding below
-getD-below zero k h = omega arith
-getD-below (suc n) k h =
-    ⊎-elim
-    (λ (e : k ≡ n). rw e (getD-at (below n) n [] 0 n (length-below n)))
-    (λ (m : k < n). List·getD-append (below n) (n ∷ []) 0 k (rw (length-below n) m) ∙ getD-below n k m)
-    (eq-or-lt-of-le (le-of-suc-le-suc h))
 
 module _ {A : Type 0} (d : A) where
   -- f gives the entries of l, the first being number c

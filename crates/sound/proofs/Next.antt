@@ -2,7 +2,7 @@
 use Prim.Native.Nat.{ℕ, _≤_}
 use mathlib.Core.Path.{_≡_}
 use mathlib.Core.List.{List, map}
-use lib.ListN.{length, take, replicate}
+use lib.ListN.{length, take}
 use Rattle.reading.specs.declared.Reading.{Reading}
 use Rattle.reading.specs.Reading.{isLess, readingAt}
 use Rattle.matching.specs.Complaints.{bookCount}
@@ -19,7 +19,8 @@ use Rattle.sound.proofs.SoundRoom.{testsIn, countsOf}
 abbrev pub slotsNext : Aside → List ℕ
 slotsNext a = take (a .readings) (a .order)
 
--- `slots` and `rows` are the readings and rows by slot that will be written; the tokens were written into the planes `ns` and `ls`
+-- `slots` and `rows` are the readings and rows by slot that will be written; the tokens were written into the planes `ns` and `ls`, and what is
+-- told of each rule over the tables `es` and `ms`
 pub record Next (room : List ℕ) (s : Sound room) (a : Aside) (slots rows : List ℕ) (R : List Reading) (complete : ℕ) : Type 0 where
   pub order-long : length (a .order) ≡ 256
   pub once : Once (a .order)
@@ -30,5 +31,7 @@ pub record Next (room : List ℕ) (s : Sound room) (a : Aside) (slots rows : Lis
   pub fits : bookCount (s .rules) R ≤ limit room
   pub ns : List ℕ
   pub ls : List ℕ
+  pub es : List ℕ
+  pub ms : List ℕ
   pub told : Told (limit room) (slotsNext a) (readingAt slots) (passSlot (readingAt slots) (inMemory rows) (testsIn room)) (countsOf room s)
-      ns ls (replicate 32 0) (replicate 32 0) (a .tokens) complete (a .nodes) (a .lasts) (a .ends) (a .completes)
+      ns ls es ms (a .tokens) complete (a .nodes) (a .lasts) (a .ends) (a .completes)

@@ -21,7 +21,8 @@ use Rattle.matching.proofs.Laws.Lists.{omit-one}
 use Rattle.matching.proofs.Laws.Members.{mem-keep}
 use Rattle.matching.proofs.Laws.Orders.{without-split, without-sorted}
 use Rattle.matching.proofs.Laws.ReadingOrder.{isLess-order, isSame-exact}
-use Rattle.room.specs.Layout.{headNumber, limit, parts, orderPart, slotsPart, rowsPart, nodesPart, lastsPart}
+use Rattle.room.specs.Parts.{twos}
+use Rattle.room.specs.Layout.{headNumber, limit, parts, completesPart, orderPart, slotsPart, rowsPart, nodesPart, lastsPart}
 use Rattle.room.specs.Held.{Once, times, held, slotsOf}
 use Rattle.room.proofs.BrokenLaws.{Whole, not-broken-whole}
 use Rattle.room.proofs.Order.{times-append}
@@ -130,7 +131,7 @@ module _ (room : List ℕ) (s : Sound room) (w : Reading) (p : ℕ) (low : p < h
         ∙ ap (λ (l : List ℕ). l ++ after) (sym (take-take p (headNumber room 2) order (omega arith))) ∙ sym slots-left
 
     told : Told (limit room) (others slot os) (readIn room) (passIn room) (countsOf room s)
-        (nodesPart (parts room)) (lastsPart (parts room)) (replicate 32 0) (replicate 32 0) tokens complete (at .aside .nodes) (at .aside .lasts) (at .aside .ends) (at .aside .completes)
+        (nodesPart (parts room)) (lastsPart (parts room)) (replicate 32 0) (twos 32 (completesPart (parts room))) tokens complete (at .aside .nodes) (at .aside .lasts) (at .aside .ends) (at .aside .completes)
     told =
         let counts : countsIn room ≡ countsOf room s = sound-counts room s in
         rw counts at (at .sifted .does os (readIn room) (passIn room) (rw counts (sound-stretches room s)) (rw counts (sound-completes room s)))
@@ -146,5 +147,7 @@ module _ (room : List ℕ) (s : Sound room) (w : Reading) (p : ℕ) (low : p < h
       fits = count-left;
       ns = nodesPart (parts room);
       ls = lastsPart (parts room);
+      es = replicate 32 0;
+      ms = twos 32 (completesPart (parts room));
       told = rw (slots-next, at .tokens-are) told;
     }

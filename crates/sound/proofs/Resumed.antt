@@ -1,16 +1,16 @@
 -- A room after a step: its parts are those that were worked out aside and written, so that it is whole and holds what the definition says of the readings that are
 -- then present. Assumes nothing.
-use Prim.Native.Nat.{ℕ, zero, suc, _+_, _*_, _-_, _≤_, _<_}
+use Prim.Native.Nat.{ℕ, zero, suc, _+_, _*_, _≤_, _<_}
 use mathlib.Core.Path.{_≡_, refl, sym, ap, ap₂, _∙_}
 use mathlib.Core.Bool.{Bool, false}
-use mathlib.Core.List.{List, [], _∷_, _++_, map}
+use mathlib.Core.List.{List, [], _∷_, _++_, map, append-nil}
 use native.Mathlib.Omega.{arith}
-use lib.ListN.{length, take, drop, getD, replicate, length-map, length-replicate, replicate-append-replicate}
-use lib.Seq.{take-at, drop-at}
+use lib.ListN.{length, take, drop, getD, length-append, length-map, List·getD-append}
+use lib.Seq.{take-at}
 use Rattle.numbers.specs.BigEndian.{uint, bytes}
 use Rattle.numbers.specs.Spliced.{spliced}
 use Rattle.numbers.proofs.Spliced.{spliced-front}
-use Rattle.book.specs.Rules.{Rule, conditionCount, padded}
+use Rattle.book.specs.Rules.{Rule, conditionCount}
 use Rattle.book.proofs.Growth.{length-rulePlaces}
 use Rattle.reading.specs.declared.Reading.{Reading}
 use Rattle.reading.specs.Reading.{readingAt}
@@ -23,10 +23,12 @@ use Rattle.room.specs.Held.{Stored, Held, Arranged, held, inMemory, stored, sto
 use Rattle.room.specs.Written.{Aside, stepped}
 use Rattle.room.proofs.BrokenLaws.{Whole, not-broken-whole, whole-not-broken}
 use Rattle.room.proofs.Put.{length-part}
+use Rattle.room.proofs.Twos.{uint-twosBytes}
 use Rattle.room.proofs.TwosRead.{length-twos, getD-twos}
 use Rattle.room.proofs.Written.{counted-readings, counted-tokens, counted-before, counted-after, parts-written}
 use Rattle.weave.specs.Built.{nodes, lasts}
 use Rattle.rete.specs.Rules.{rulesBuilt}
+use Rattle.checking.proofs.Fronts.{twos-front}
 use Rattle.sound.specs.Sound.{Sound, heldOf, tokensHeld, endsOf, completesOf}
 use Rattle.sound.proofs.Agree.{passSlot, bits-agree}
 use Rattle.sound.proofs.Next.{Next, slotsNext}
@@ -34,24 +36,13 @@ use Rattle.sound.proofs.RoomBuilt.{room-memories, room-tokens}
 use Rattle.sound.proofs.SoundLaws.{held-ext, held-sound, complaints-within}
 use Rattle.sound.proofs.SoundRoom.{testsIn, nodes-long, lasts-long, countsOf, sound-kept, sound-tests, sound-counts}
 use Rattle.sound.proofs.Stretches.{used-stored}
-use Rattle.sound.proofs.Tables.{AtMost, places-counted, twos-padded}
+use Rattle.sound.proofs.Tables.{AtMost, places-counted}
 use Rattle.sound.proofs.TokensBuilt.{Some, Agrees, rulesBuilt-used, length-rulesBuilt, endsBuilt-of, completesBuilt-of, completeBuilt-of}
 
 -- ---- what is written from the start of a list on
 
 front-spliced : (n : ℕ) (xs ys : List ℕ) → n ≡ length ys → take n (spliced xs 0 ys) ≡ ys
 front-spliced n xs ys e = ap (take n) (spliced-front xs ys) ∙ take-at ys (drop (length ys) xs) n (sym e)
-
-zeros-behind : (k m : ℕ) → drop k (replicate {A = ℕ} (k + m) 0) ≡ replicate m 0
-zeros-behind k m = ap (drop k) (sym (replicate-append-replicate {A = ℕ} k m 0)) ∙ drop-at (replicate k 0) (replicate m 0) k (length-replicate {A = ℕ} k 0)
-
--- over zeros: the list filled up with them
-zeros-spliced : (n : ℕ) (l : List ℕ) → length l ≤ n → spliced (replicate n 0) 0 l ≡ padded n l
-unfolding padded
-zeros-spliced n l h =
-    let all : n ≡ length l + (n - length l) = omega arith in
-    spliced-front (replicate n 0) l
-    ∙ ap (λ (z : List ℕ). l ++ z) (ap (λ (m : ℕ). drop (length l) (replicate m 0)) all ∙ zeros-behind (length l) (n - length l))
 
 -- ---- the two planes of tokens
 
@@ -85,10 +76,16 @@ completesOf-most most at (rule ∷ rules) R some h zero = omega (arith, complain
 completesOf-most most at (rule ∷ rules) R some h (suc i) =
     completesOf-most most (at + length (ruleComplaints rule R)) rules R (some .1) (omega (arith, complaints-within rule R (some .0))) i
 
--- a table as it is written and read back
-table-read : (n : ℕ) (xs l : List ℕ) → xs ≡ spliced (replicate 32 0) 0 l → n ≡ length l → n ≤ 32 → AtMost 8192 l → twos n (twosBytes xs) ≡ l
-table-read n xs l e long few small =
-    ap₂ (λ (k : ℕ) (z : List ℕ). twos k (twosBytes z)) long (e ∙ zeros-spliced 32 l (omega arith)) ∙ twos-padded 32 l (omega arith) small
+-- a table as it is written, over whatever stood there, and read back: only the numbers of the rules are read
+table-read : (n : ℕ) (was xs l : List ℕ) → xs ≡ spliced was 0 l → n ≡ length l → AtMost 8192 l → twos n (twosBytes xs) ≡ l
+table-read n was xs l e long small =
+    let behind : List ℕ = drop (length l) was in
+    let is : xs ≡ l ++ behind = e ∙ spliced-front was l in
+    let within : n ≤ length xs = omega (arith, ap length is, length-append l behind) in
+    let own : (k : ℕ) → k < n → getD xs k 0 ≡ getD l k 0 = λ k h. ap (λ (z : List ℕ). getD z k 0) is ∙ List·getD-append l behind 0 k (omega arith) in
+    twos-front n (twosBytes xs) xs within .1
+    (λ k h. ap (λ (b : List ℕ). uint 2 b (k * 2)) (sym (append-nil (twosBytes xs))) ∙ uint-twosBytes xs [] k (omega arith) (omega (arith, small k, own k h)))
+    ∙ ap (take n) e ∙ front-spliced n was l long
 
 table-most : (n most : ℕ) (b l : List ℕ) → twos n b ≡ l → AtMost most l → (i : ℕ) → i < n → uint 2 b (i * 2) ≤ most
 table-most n most b l e h i k = omega (arith, h i, getD-twos n b i k, ap (λ (z : List ℕ). getD z i 0) e)
@@ -157,24 +154,21 @@ module _ (room room' : List ℕ) (s : Sound room) (a : Aside) (slots rows : List
       ap (take (a .tokens)) (next .told .planes .lasts (omega (arith, fits)))
       ∙ front-spliced (a .tokens) (next .ls) (lasts made) (count ∙ sym (length-map made (λ t. t .last)))
 
-  few-rules : headNumber room 5 ≤ 32
-  few-rules = whole-before .rules
-
   small : 0 + bookCount (s .rules) R ≤ 8192
   small = let w : Whole room = whole-before in omega (arith, next .fits)
 
   ends-aside : twos (headNumber room 5) (twosBytes (a .ends)) ≡ endsOf 0 (s .rules) R
   ends-aside =
-      let are : a .ends ≡ spliced (replicate 32 0) 0 (endsOf 0 (s .rules) R) =
-      next .told .ends-are fits ∙ ap (spliced (replicate 32 0) 0) (endsBuilt-of os read pass 0 0 (s .rules) agrees ∙ ap (endsOf 0 (s .rules)) (next .reads)) in
-      table-read (headNumber room 5) (a .ends) (endsOf 0 (s .rules) R) are (sound-rule-count room s ∙ sym (length-endsOf 0 (s .rules) R)) few-rules
+      let are : a .ends ≡ spliced (next .es) 0 (endsOf 0 (s .rules) R) =
+      next .told .ends-are fits ∙ ap (spliced (next .es) 0) (endsBuilt-of os read pass 0 0 (s .rules) agrees ∙ ap (endsOf 0 (s .rules)) (next .reads)) in
+      table-read (headNumber room 5) (next .es) (a .ends) (endsOf 0 (s .rules) R) are (sound-rule-count room s ∙ sym (length-endsOf 0 (s .rules) R))
       (endsOf-most 8192 0 (s .rules) R small)
 
   completes-aside : twos (headNumber room 5) (twosBytes (a .completes)) ≡ completesOf 0 (s .rules) R
   completes-aside =
-      let are : a .completes ≡ spliced (replicate 32 0) 0 (completesOf 0 (s .rules) R) =
-      next .told .completes-are fits ∙ ap (spliced (replicate 32 0) 0) (completesBuilt-of os read pass 0 0 (s .rules) some agrees ∙ ap (completesOf 0 (s .rules)) (next .reads)) in
-      table-read (headNumber room 5) (a .completes) (completesOf 0 (s .rules) R) are (sound-rule-count room s ∙ sym (length-completesOf 0 (s .rules) R)) few-rules
+      let are : a .completes ≡ spliced (next .ms) 0 (completesOf 0 (s .rules) R) =
+      next .told .completes-are fits ∙ ap (spliced (next .ms) 0) (completesBuilt-of os read pass 0 0 (s .rules) some agrees ∙ ap (completesOf 0 (s .rules)) (next .reads)) in
+      table-read (headNumber room 5) (next .ms) (a .completes) (completesOf 0 (s .rules) R) are (sound-rule-count room s ∙ sym (length-completesOf 0 (s .rules) R))
       (completesOf-most 8192 0 (s .rules) R some small)
 
   -- ---- written

@@ -23,7 +23,7 @@ use Rattle.room.specs.Parts.{below, twos}
 use Rattle.room.specs.Layout.{headNumber, parts, conditionPlacesPart, ruleConditionsPart, endsPart, completesPart, slotsPart, rowsPart, nodesPart, lastsPart}
 use Rattle.room.specs.Held.{Held, held, level, inMemory, slotsOf, storedOf, tokensFrom}
 use Rattle.room.proofs.BrokenLaws.{Whole, not-broken-whole}
-use Rattle.room.proofs.Order.{length-below}
+use Rattle.room.proofs.Order.{length-below, getD-below}
 use Rattle.room.proofs.Put.{length-part}
 use Rattle.room.proofs.TwosRead.{length-twos, getD-twos}
 use Rattle.rete.specs.Rules.{rulesBuilt, endsBuilt, completesBuilt, Stretches}
@@ -31,7 +31,7 @@ use Rattle.weave.proofs.Planes.{length-stored}
 use Rattle.step.specs.Worked.{bookIn}
 use Rattle.sound.specs.Sound.{Sound, heldOf, tokensHeld}
 use Rattle.sound.proofs.Agree.{memoryAt, passSlot, Bits, memories-bits, bits-agree}
-use Rattle.sound.proofs.Entries.{Entries, entries-map, getD-below}
+use Rattle.sound.proofs.Entries.{Entries, entries-map}
 use Rattle.sound.proofs.Levels.{levelled-all}
 use Rattle.sound.proofs.Slots.{Distinct, read-injective}
 use Rattle.sound.proofs.Stored.{asToken, asToken-injective, tokens-injective}

@@ -15,13 +15,10 @@ abbrev μ-loop : tie.MeasureT-loop
 
 -- the place in the middle
 abbrev mid : tie.At-loop Inv-loop μ-loop → ℕ
-mid c = c .loop .low + (c .loop .high - c .loop .low) / 2
+mid c = (c .loop .low + c .loop .high) / 2
 
 loop-holds : tie.Need-loop-holds Inv-loop μ-loop
 loop-holds c = between-all _ _ _ _ (omega arith)
-
-sub-mid : tie.Need-sub-mid Inv-loop μ-loop
-sub-mid c = search needs
 
 add-mid : tie.Need-add-mid Inv-loop μ-loop
 add-mid c = search needs
@@ -69,7 +66,6 @@ rank-of-spec =
     Inv-loop
     μ-loop
     loop-holds
-    sub-mid
     add-mid
     shared-slice-read-reading-at
     cast-reading-at

@@ -1,25 +1,30 @@
--- `room::broken::counts_fit` meets its contract. The loop's invariant, of the first i places: where `wrong` is 0 none has more than 6 conditions, and `total` is their sum;
--- `empty` counts the empty ones, so where those behind the rules are empty and are all of them, each rule has some. The measure is how many places are left. Assumes nothing.
+-- `room::broken::counts_fit` meets its contract. The loop's invariant, of the first i places: `wrong` counts what is wrong there, and where that is nothing each rule has 1 to 6 conditions,
+-- none are behind the rules, and `total` is their sum. The measure is how many places are left. Assumes nothing.
 use Prim.Native.Nat.{_+_, _-_, _≤_}
 use mathlib.Core.Bool.{false≢true}
 use mathlib.Core.Path.{_≡_, _∙_}
 use mathlib.Core.Logic.{⊎-elim}
 use native.Mathlib.Omega.{arith}
 use borrow.Author.Needs.{needs}
-use Rattle.room.proofs.Counts.{Small, Empties, small-none, small-more, small-wrong, empties-none, empties-more, empties-same, counts-right}
+use borrow.Author.Tests.{eqb-true}
+use Rattle.room.specs.Parts.{below}
+use Rattle.room.proofs.Counts.{Added, Filled, filled, Counted, counted-none, counted-more, counts-right}
+use Rattle.room.proofs.Order.{getD-below}
+use Rattle.room.proofs.Tally.{Noted, noted-wrong, noted-right}
 use Rattle.room.proofs.broken.counts_fit.Statement.{statement}
 use Rattle.room.proofs.broken.counts_fit.Tie as tie
 
 abbrev Inv-loop : tie.InvT-loop
-Inv-loop counts rules conditions wrong₀ empty₀ total₀ i₀ wrong empty total i = (i ≤ 32) × (Small counts i wrong total × Empties counts rules i empty)
+Inv-loop counts rules conditions places few wrong₀ total₀ i₀ wrong total i = (i ≤ 32) × Counted counts rules i wrong total
 
 abbrev μ-loop : tie.MeasureT-loop
-μ-loop counts rules conditions wrong₀ empty₀ total₀ i₀ wrong empty total i = 32 - i
+μ-loop counts rules conditions places few wrong₀ total₀ i₀ wrong total i = 32 - i
+
+cast-few : tie.Need-cast-few Inv-loop μ-loop
+cast-few c = search needs
 
 loop-holds : tie.Need-loop-holds Inv-loop μ-loop
-loop-holds c =
-    let counts = c .before .args .counts .now in
-    (omega arith, (small-none counts, empties-none counts _))
+loop-holds c = (omega arith, counted-none (c .args .counts .now) (c .args .rules))
 
 shared-slice-read-k : tie.Need-shared-slice-read-k Inv-loop μ-loop
 shared-slice-read-k c = search needs
@@ -30,8 +35,36 @@ add-total c = search needs
 add-wrong : tie.Need-add-wrong Inv-loop μ-loop
 add-wrong c = search needs
 
-add-empty : tie.Need-add-empty Inv-loop μ-loop
-add-empty c = search needs
+array-read-if2 : tie.Need-array-read-if2 Inv-loop μ-loop
+array-read-if2 c = search needs
+
+-- the counts after each of the two tests
+added : (c : tie.Joined1 Inv-loop μ-loop) →
+    let l = c .before .before .before in
+    let a = l .before .args in
+    (c .if1 .total ≤ l .loop .total + 6) × Noted (l .loop .wrong) (c .if1 .wrong) (Added (a .counts .now) (l .loop .i) (l .loop .total) (c .if1 .total))
+added c =
+    ⊎-elim
+    (λ w. (omega arith, noted-right (omega arith) (omega arith)))
+    (λ w. (omega arith, noted-wrong (omega arith)))
+    (c .if1 .came)
+
+fill : (c : tie.Joined2 Inv-loop μ-loop) →
+    let l = c .before .before .before .before in
+    let a = l .before .args in
+    Noted (c .before .if1 .wrong) (c .if2 .wrong) (Filled (a .counts .now) (a .rules) (l .loop .i))
+unfolding below
+fill c =
+    let l = c .before .before .before .before in
+    let a = l .before .args in
+    let i = l .loop .i in
+    ⊎-elim
+    (λ w. noted-wrong (omega arith))
+    (λ w. noted-right (omega arith) (filled (a .counts .now) (a .rules) i (getD-below 32 i (omega arith)) (w .0 .left)))
+    (c .if2 .came)
+
+add-wrong-2 : tie.Need-add-wrong-2 Inv-loop μ-loop
+add-wrong-2 c = omega (arith, added (c .before .before))
 
 add-i : tie.Need-add-i Inv-loop μ-loop
 add-i c = search needs
@@ -39,62 +72,25 @@ add-i c = search needs
 loop-less : tie.Need-loop-less Inv-loop μ-loop
 loop-less c = search needs
 
--- the counts after the two tests
-small-next : (c : tie.Joined1 Inv-loop μ-loop) →
-    let l = c .before .before .before in
-    Small (l .before .before .args .counts .now) (l .loop .i + 1) (c .if1 .wrong) (c .if1 .total)
-small-next c =
-    let l = c .before .before .before in
-    ⊎-elim
-    (λ w. small-more _ (l .loop .inv .1 .0) (omega arith) (w .0 .taken) (omega arith) (omega arith))
-    (λ w. small-wrong _ (l .loop .inv .1 .0) (omega arith) (omega arith))
-    (c .if1 .came)
-
-empties-next : (c : tie.Joined2 Inv-loop μ-loop) →
-    let l = c .before .before .before .before in
-    Empties (l .before .before .args .counts .now) (l .before .before .args .rules) (l .loop .i + 1) (c .if2 .empty)
-empties-next c =
-    let l = c .before .before .before .before in
-    let counts = l .before .before .args .counts .now in
-    ⊎-elim
-    (λ w. empties-more counts _ (l .loop .inv .1 .1) (omega arith))
-    (λ w. empties-same counts _ (l .loop .inv .1 .1) (omega arith) (w .0 .left) (omega arith))
-    (c .if2 .came)
-
 loop-again : tie.Need-loop-again Inv-loop μ-loop
-loop-again c = (omega arith, (small-next (c .before), empties-next c))
+loop-again c =
+    let l = c .before .before .before .before in
+    let a = added (c .before) in
+    (omega arith, counted-more _ _ (l .loop .i) (omega arith) (l .loop .inv .1) (a .0) (a .1) (fill c))
 
 returns : tie.Need-returns Inv-loop μ-loop
 returns c e = absurd (false≢true e)
 
-cast-if4 : tie.Need-cast-if4 Inv-loop μ-loop
-cast-if4 c = search needs
-
-add-if4 : tie.Need-add-if4 Inv-loop μ-loop
-add-if4 c = search needs
+cast-result : tie.Need-cast-result Inv-loop μ-loop
+cast-result c = search needs
 
 returns-2 : tie.Need-returns-2 Inv-loop μ-loop
-returns-2 c e = absurd (false≢true e)
-
-cast-if5 : tie.Need-cast-if5 Inv-loop μ-loop
-cast-if5 c = search needs
-
-returns-3 : tie.Need-returns-3 Inv-loop μ-loop
-returns-3 c e = absurd (false≢true e)
-
-none-behind-requires : tie.Need-none-behind-requires Inv-loop μ-loop
-none-behind-requires c κs = search needs
-
-returns-4 : tie.Need-returns-4 Inv-loop μ-loop
-returns-4 c e =
-    let l = c .before .before .before .before .before in
-    let s = l .before .before in
+returns-2 c e =
+    let l = c .before .before in
+    let s = l .before in
     let all : l .loop .i ≡ 32 = omega arith in
-    let right : l .loop .wrong ≡ 0 = omega arith in
-    let small = rw (all, right) at (l .loop .inv .1 .0) in
-    let empties = rw all at (l .loop .inv .1 .1) in
-    let fits = counts-right (s .args .counts .now) (s .pre .0) small empties (omega arith) (c .none-behind .ensures e) in
-    (fits .0, fits .1 ∙ omega arith)
+    let fits = counts-right (s .args .counts .now) (s .args .rules) (s .pre .0) (s .pre .1) (rw (all, c .if3 .left) at (l .loop .inv .1)) in
+    (fits .0, fits .1 ∙ eqb-true _ _ e)
 
 pub counts-fit-spec : {M : Type 1} → statement M
 counts-fit-spec =
@@ -102,19 +98,16 @@ counts-fit-spec =
     (tie.spec
     Inv-loop
     μ-loop
+    cast-few
     loop-holds
     shared-slice-read-k
     add-total
     add-wrong
-    add-empty
+    array-read-if2
+    add-wrong-2
     add-i
     loop-less
     loop-again
     returns
-    cast-if4
-    add-if4
-    returns-2
-    cast-if5
-    returns-3
-    none-behind-requires
-    returns-4)
+    cast-result
+    returns-2)

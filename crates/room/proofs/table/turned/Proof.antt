@@ -1,4 +1,4 @@
--- `room::broken::turned` meets its contract. The loop's invariant: the first i numbers of the table stand in `ys`, their bytes the wrong way round.
+-- `room::table::turned` meets its contract. The loop's invariant: the first i numbers of the table stand in `ys`, their bytes the wrong way round.
 -- The measure is how many are left. Assumes nothing.
 use Prim.Native.Nat.{_+_, _-_, _*_, _≤_, _<_}
 use mathlib.Core.Path.{_≡_, refl}
@@ -8,8 +8,8 @@ use borrow.Author.Needs.{needs}
 use lib.ListN.{length, getD, length-set}
 use Rattle.room.proofs.Turned.{Turned, turnedAt}
 use Rattle.room.proofs.Spliced.{filled-set}
-use Rattle.room.proofs.broken.turned.Statement.{statement}
-use Rattle.room.proofs.broken.turned.Tie as tie
+use Rattle.room.proofs.table.turned.Statement.{statement}
+use Rattle.room.proofs.table.turned.Tie as tie
 
 abbrev Inv-loop : tie.InvT-loop
 Inv-loop table ys₀ i₀ ys i = (i ≤ 32) × ((length ys ≡ 32) × Turned ys table i)
