@@ -4,7 +4,7 @@ use mathlib.Core.Path.{_≡_, sym, ap, _∙_}
 use mathlib.Core.Bool.{false}
 use mathlib.Core.List.{List}
 use native.Mathlib.Omega.{arith}
-use lib.ListN.{length, take, drop}
+use lib.ListN.{length, take, drop, replicate, length-replicate}
 use lib.Seq.{take-take}
 use Rattle.numbers.specs.BigEndian.{uint}
 use Rattle.room.specs.Parts.{part}
@@ -52,9 +52,12 @@ pub record Numbered (room : List ℕ) (n end r c : ℕ) : Type 0 where
   pub rules : r ≡ uint 2 room 10
   pub conditions : c ≡ uint 2 room 12
 
--- what is asked for a row to be made
+-- what is asked for a row to be made, with a byte for each of 32 rules
 pub row-asked : (room : List ℕ) (n end rules conditions : ℕ) → Numbered room n end rules conditions
-    → (length (part room 8208 384) ≡ 384) × ((rules ≤ length (part room 8656 32)) × (sum (take rules (part room 8656 32)) ≤ 192))
+    → (length (part room 8208 384) ≡ 384)
+    × ((rules ≤ length (part room 8656 32)) × ((rules ≤ length {A = ℕ} (replicate 32 0)) × (sum (take rules (part room 8656 32)) ≤ 192)))
 row-asked room n end rules conditions a =
-    let b = a .bounded in
-    (large-part room 8208 384 (omega arith) (b .large), (omega (arith, large-part room 8656 32 (omega arith) (b .large)), rw (a .rules) (b .total)))
+    let b = a .bounded in (
+      large-part room 8208 384 (omega arith) (b .large),
+      (omega (arith, large-part room 8656 32 (omega arith) (b .large)), (omega (arith, b .rules, length-replicate {A = ℕ} 32 0), rw (a .rules) (b .total))),
+    )

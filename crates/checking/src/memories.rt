@@ -49,11 +49,13 @@ pub fn rows_agree(room: &[u8]) -> bool
     while i < n {
         let s = room[ORDER + i] as usize;
         let w = reading_at(&room[SLOTS..ROWS], s);
+        let mut touched = [0u8; 32];
         let row = make_row(
             &room[BOOK..end],
             &room[CONDITION_PLACES..RULE_PLACES],
             &room[RULE_CONDITIONS..ENDS],
             rules,
+            &mut touched[..],
             w,
         );
         if !row_agrees(&room[ROWS..NODES], s, &row[..], conditions) {

@@ -1,3 +1,4 @@
+pub mod Addition
 pub mod Apart
 pub mod CellLaws
 pub mod Decode

@@ -21,7 +21,8 @@ use Rattle.matching.proofs.Laws.Members.{mem-same}
 use Rattle.matching.proofs.Laws.Orders.{inserted-sorted}
 use Rattle.matching.proofs.Laws.ReadingOrder.{isLess-order, isSame-exact}
 use Rattle.room.specs.Broken.{sum}
-use Rattle.room.specs.Layout.{headNumber, limit, parts, conditionPlacesPart, orderPart, slotsPart, rowsPart, nodesPart, lastsPart}
+use Rattle.room.specs.Parts.{twos}
+use Rattle.room.specs.Layout.{headNumber, limit, parts, conditionPlacesPart, completesPart, orderPart, slotsPart, rowsPart, nodesPart, lastsPart}
 use Rattle.room.specs.Held.{held, inMemory, slotsOf}
 use Rattle.room.specs.Written.{slotsWith, rowsWith}
 use Rattle.room.proofs.BrokenLaws.{Whole, not-broken-whole}
@@ -188,7 +189,7 @@ module _ (room : List ℕ) (s : Sound room) (w : Reading) (new : present (stateO
     order-next = ap (take (headNumber room 2 + 1)) moved-in ∙ order-with
 
     told-seen : Told (limit room) (orderWith room w) (read (seenIn room (added .row) w)) (pass (seenIn room (added .row) w)) (countsOf room s) (replicate 2048 0) (replicate 2048 0)
-        (replicate 32 0) (replicate 32 0) tokens complete (added .aside .nodes) (added .aside .lasts) (added .aside .ends) (added .aside .completes)
+        (replicate 32 0) (twos 32 (completesPart (parts room))) tokens complete (added .aside .nodes) (added .aside .lasts) (added .aside .ends) (added .aside .completes)
     told-seen =
         rw (order-next, sound-counts room s) at
         (added .woven .does (early room w) (late room w) (rw order-next (order-woven (added .row))) (old-stretches (added .row)) (old-completes (added .row)))
@@ -235,7 +236,7 @@ module _ (room : List ℕ) (s : Sound room) (w : Reading) (new : present (stateO
             ns = replicate 2048 0;
             ls = replicate 2048 0;
             es = replicate 32 0;
-            ms = replicate 32 0;
+            ms = twos 32 (completesPart (parts room));
             told = rw (is, added .tokens-are)
                 (told-ext (orderWith room w) sees (readingAt slots) (pass (seenIn room row w)) (passSlot (readingAt slots) (inMemory rows) (testsIn room)) (λ t m. next-read t) 192
                 (λ c t x h m. rw (next-bit c x h, next-read x)) total told-seen);

@@ -103,6 +103,10 @@ module _ {room : List ℕ} {T n rules : ℕ} (k : Known room T n rules) where
       let total : sum (take rules (part room 8656 32)) ≡ headNumber room 6 = rw (k .rules-is) (k .whole .total) in
       omega arith
 
+  -- a byte for each rule
+  pub bytes-enough : {size : ℕ} → size ≡ length (zeros 32) → rules ≤ size
+  bytes-enough same = omega (arith, length-zeros 32)
+
   planes-long : T ≤ length (zeros 2048)
   planes-long = omega (arith, length-zeros 2048)
 
@@ -163,7 +167,7 @@ module _ {room : List ℕ} {T n rules : ℕ} (k : Known room T n rules) where
       → Weaves
       (seen (part room 16 (16 + L - 16)) (part room 8208 384) (part room 9072 3072) (part room 12144 6144) row (record { slot = getD room (8816 + n) 0; w = w }))
       (take (n + 1) (s .order)) (nodesLent room T) (lastsLent room T) T (twos rules (part room 8688 64)) (twos rules (part room 8752 64)) (take rules (part room 8656 32))
-      (zeros 2048) (zeros 2048) (zeros 32) (zeros 32) tokens complete (s .nodes) (s .lasts) (s .ends) (s .completes)
+      (zeros 2048) (zeros 2048) (zeros 32) (twos 32 (part room 8752 64)) tokens complete (s .nodes) (s .lasts) (s .ends) (s .completes)
       → (T < tokens → room' ≡ room)
       → (tokens ≤ T → cut 0 (widths T) room'
       ≡ stepped s (slotsWith (cut 0 (widths T) room) (getD room (8816 + n) 0) w) (rowsWith (cut 0 (widths T) room) (getD room (8816 + n) 0) row) (cut 0 (widths T) room))

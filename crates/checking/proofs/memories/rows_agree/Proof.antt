@@ -99,8 +99,13 @@ part-make-row-start-3 c = search needs
 part-make-row-end-3 : tie.Need-part-make-row-end-3 Inv-loop μ-loop
 part-make-row-end-3 c = let l = c .before .before .before .before .before .before .loop in omega arith
 
+slice-aggregate-make-row : tie.Need-slice-aggregate-make-row Inv-loop μ-loop
+slice-aggregate-make-row c = search needs
+
 make-row-requires : tie.Need-make-row-requires Inv-loop μ-loop
-make-row-requires c κs = let l = c .before .before .before .before .before .before .before .loop in row-asked _ _ _ _ _ (l .inv .1 .0)
+make-row-requires c κs =
+    let l = c .before .before .before .before .before .before .before .before .loop in
+    row-asked _ _ _ _ _ (l .inv .1 .0)
 
 sub-row-agrees : tie.Need-sub-row-agrees Inv-loop μ-loop
 sub-row-agrees c = search needs
@@ -109,42 +114,42 @@ part-row-agrees-start : tie.Need-part-row-agrees-start Inv-loop μ-loop
 part-row-agrees-start c = search needs
 
 part-row-agrees-end : tie.Need-part-row-agrees-end Inv-loop μ-loop
-part-row-agrees-end c = let l = c .before .before .before .before .before .before .before .before .loop in omega arith
+part-row-agrees-end c = let l = c .before .before .before .before .before .before .before .before .before .before .loop in omega arith
 
 slice-aggregate-row-agrees : tie.Need-slice-aggregate-row-agrees Inv-loop μ-loop
 slice-aggregate-row-agrees c = search needs
 
 row-agrees-requires : tie.Need-row-agrees-requires Inv-loop μ-loop
 row-agrees-requires c κs =
-    let l = c .before .before .before .before .before .before .before .before .before .before .loop in
-    let slot = c .before .before .before .before .before .before .before .before .shared-slice-known2 .given (8816 + l .i) in
-    (simp (length-take, length-drop) (omega arith), (c .before .before .make-row .ensures .long, omega arith))
+    let l = c .before .before .before .before .before .before .before .before .before .before .before .before .loop in
+    let slot = c .before .before .before .before .before .before .before .before .before .before .shared-slice-known2 .given (8816 + l .i) in
+    (simp (length-take, length-drop) (omega arith), (c .before .before .before .make-row .ensures .0 .long, omega arith))
 
 -- the answer on the slot at this place of the order
 answered : (c : tie.After-row-agrees Inv-loop μ-loop) →
-    let l = c .before .before .before .before .before .before .before .before .before .before .before .loop in
-    let room = c .before .before .before .before .before .before .before .before .before .before .before .before .before .before .before .before .before .args .room .now in
+    let l = c .before .before .before .before .before .before .before .before .before .before .before .before .before .loop in
+    let room = c .before .before .before .before .before .before .before .before .before .before .before .before .before .before .before .before .before .before .before .args .room .now in
     (c .row-agrees .result ≡ true) ↔ RowAgrees room (getD room (8816 + l .i) 0)
 answered c =
-    let read = c .before .before .before .before .before .before .before in
-    row-known _ _ _ _ _ (read .before .before .before .before .loop .inv .1 .0) _ _ _ _ (read .reading-at .ensures) (c .before .before .before .make-row .ensures) (c .row-agrees .ensures)
+    let read = c .before .before .before .before .before .before .before .before .before in
+    row-known _ _ _ _ _ (read .before .before .before .before .loop .inv .1 .0) _ _ _ _ (read .reading-at .ensures) (c .before .before .before .before .make-row .ensures .0) (c .row-agrees .ensures)
 
 returns : tie.Need-returns Inv-loop μ-loop
 returns c =
-    let l = c .before .before .before .before .before .before .before .before .before .before .before .before .loop in
+    let l = c .before .before .before .before .before .before .before .before .before .before .before .before .before .before .loop in
     no λ all.
     let own = rows-known _ (l .inv .1 .0 .bounded) .0 all (l .i) (omega arith) in
     false≢true (sym (not-true _ (c .if1 .taken)) ∙ answered (c .before) .1 own)
 
 add-i : tie.Need-add-i Inv-loop μ-loop
-add-i c = let l = c .before .before .before .before .before .before .before .before .before .before .before .before .loop in omega arith
+add-i c = let l = c .before .before .before .before .before .before .before .before .before .before .before .before .before .before .loop in omega arith
 
 loop-less : tie.Need-loop-less Inv-loop μ-loop
-loop-less c = let l = c .before .before .before .before .before .before .before .before .before .before .before .before .loop in omega arith
+loop-less c = let l = c .before .before .before .before .before .before .before .before .before .before .before .before .before .before .loop in omega arith
 
 loop-again : tie.Need-loop-again Inv-loop μ-loop
 loop-again c =
-    let l = c .before .before .before .before .before .before .before .before .before .before .before .before .loop in
+    let l = c .before .before .before .before .before .before .before .before .before .before .before .before .before .before .loop in
     (omega arith, (l .inv .1 .0, below-more _ _ (l .inv .1 .1) (answered (c .before) .0 (not-false _ (c .if1 .left)))))
 
 returns-2 : tie.Need-returns-2 Inv-loop μ-loop
@@ -180,6 +185,7 @@ rows-agree-spec =
     sub-make-row-3
     part-make-row-start-3
     part-make-row-end-3
+    slice-aggregate-make-row
     make-row-requires
     sub-row-agrees
     part-row-agrees-start
