@@ -1,7 +1,7 @@
 // The rule behind refusal 10, over the bytes of a room. It stands before every call, so it looks at no token.
 ghost use mathlib.Core.Bool.{true};
 ghost use mathlib.Core.Path.{_≡_};
-ghost use Prim.Native.Nat.{ℕ, _+_, _*_, _/_, _%_, _≤_, _<_};
+ghost use Prim.Native.Nat.{ℕ, _+_, _*_, _≤_, _<_};
 ghost use lib.ListN.{length, take, getD};
 ghost use Rattle.numbers.specs.BigEndian.{uint};
 ghost use Rattle.room.specs.Broken.{sum, headFits, tablesFit, broken};
