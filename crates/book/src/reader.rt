@@ -1,7 +1,6 @@
 // The reading of a book: its records from the front, refused by number and place, or accepted, with where its rules and conditions stand.
 ghost use mathlib.Core.Path.{_≡_};
-ghost use Prim.Native.Nat.{_≤_, _<_};
-ghost use lib.ListN.{length};
+ghost use Prim.Native.Nat.{_<_};
 ghost use Rattle.book.specs.Judgement.{after, Within};
 ghost use Rattle.book.specs.Read.{readBook, answerOf, placedOf};
 ghost use Rattle.book.specs.Steps.{refusalOf, endOf, stepOf, ruleNoted, conditionNoted, noted, noPlaces, closed};

@@ -1,6 +1,6 @@
 -- The rows of a room, slot by slot: they agree if at each place of the order in use the row of the slot there has the bits of a row made anew. Assumes nothing.
 use Prim.Native.Nat.{ℕ, _+_, _-_, _<_}
-use mathlib.Core.Path.{_≡_, sym, ap, ap₂, _∙_}
+use mathlib.Core.Path.{_≡_, sym, ap, _∙_}
 use mathlib.Core.Bool.{Bool, true}
 use mathlib.Core.List.{List}
 use mathlib.Core.Logic.{_↔_}
@@ -16,10 +16,10 @@ use Rattle.room.specs.Layout.{headNumber, parts, conditionPlacesPart, orderPart
 use Rattle.room.specs.Held.{inMemory}
 use Rattle.room.proofs.BrokenLaws.{headNumber-at}
 use Rattle.room.proofs.Large.{large-part}
-use Rattle.rete.specs.Row.{bookFlags, RowOf}
+use Rattle.row.specs.Row.{bookFlags, RowOf}
 use Rattle.checking.specs.Checked.{bookIn, countsIn, readIn, RowsAgree}
 use Rattle.checking.proofs.Fronts.{each-front}
-use Rattle.checking.proofs.Numbers.{Bounds, Numbered, book-read, counts-read}
+use Rattle.checking.proofs.Numbers.{Bounds, Numbered, book-read}
 
 module _ (room : List ℕ) where
   -- what is asked of the row of a slot
@@ -40,14 +40,14 @@ module _ (room : List ℕ) where
         )
 
   -- the answer on one row, of the numbers as they are read and a row made of them
-  pub row-known : (n end rules conditions : ℕ) → Numbered room n end rules conditions → (s : ℕ) (w : Reading) (row : List ℕ) (r : Bool) → w ≡ readingAt (part room 9072 3072) s
-      → RowOf row (bookFlags (take (end - 16) (drop 16 room)) (part room 8208 384) w 0 (take rules (part room 8656 32)))
+  pub row-known : (n end conditions : ℕ) → Numbered room n end conditions → (s : ℕ) (w : Reading) (row : List ℕ) (r : Bool) → w ≡ readingAt (part room 9072 3072) s
+      → RowOf row (bookFlags (take (end - 16) (drop 16 room)) (part room 8208 384) w 0 (countsIn room))
       → ((r ≡ true) ↔ ((c : ℕ) → c < conditions → inMemory (part room 12144 6144) c s ≡ inMemory row c 0))
       → (r ≡ true) ↔ RowAgrees s
-  row-known n end rules conditions a s w row r e made answer =
+  row-known n end conditions a s w row r e made answer =
       let b = a .bounded in
       let six = headNumber-at room 6 (omega arith) in
-      let flags = ap₂ (λ (bs ks : List ℕ). bookFlags bs (part room 8208 384) w 0 ks) (book-read room b end (a .book)) (counts-read room rules (a .rules)) in
+      let flags = ap (λ (bs : List ℕ). bookFlags bs (part room 8208 384) w 0 (countsIn room)) (book-read room b end (a .book)) in
       let own = ap (λ (v : Reading). bookFlags (bookIn room) (part room 8208 384) v 0 (countsIn room)) e in
       let bit : (c : ℕ) → c < headNumber room 6 → inMemory row c 0 ≡ eqb (getD (bookFlags (bookIn room) (part room 8208 384) (readIn room s) 0 (countsIn room)) c 0) 1 =
       λ c h. made .bits c (omega (arith, b .conditions)) ∙ ap (λ (l : List ℕ). eqb (getD l c 0) 1) (flags ∙ own) in (

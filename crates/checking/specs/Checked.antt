@@ -4,7 +4,7 @@ use Prim.Native.Nat.{ℕ, _*_, _<_}
 use mathlib.Core.Bool.{Bool, _&&_}
 use mathlib.Core.List.{List, map, List·Memᴰ}
 use lib.Dec.{eqb}
-use lib.ListN.{length, take, getD}
+use lib.ListN.{take, getD}
 use Rattle.numbers.specs.BigEndian.{uint}
 use Rattle.book.specs.Rules.{Rule, rulePlaces, conditionPlaces}
 use Rattle.book.specs.Read.{readBook, accepted}
@@ -17,7 +17,7 @@ use Rattle.matching.specs.Passes.{joins}
 use Rattle.room.specs.Parts.{twos}
 use Rattle.room.specs.Layout.{headNumber, parts, bookPart, conditionPlacesPart, rulePlacesPart, ruleConditionsPart, endsPart, completesPart, slotsPart, rowsPart}
 use Rattle.room.specs.Held.{inMemory, slotsOf, storedOf}
-use Rattle.rete.specs.Row.{bookFlags}
+use Rattle.row.specs.Row.{bookFlags}
 use Rattle.rete.specs.Rules.{rulesBuilt, endsBuilt, completesBuilt}
 
 module _ (room : List ℕ) where

@@ -9,7 +9,6 @@ ghost use Rattle.room.specs.Held.{inMemory};
 ghost use Rattle.checking.specs.Checked.{RowsAgree};
 use numbers::two_at;
 use reading::reading_at;
-use rete::row::make_row;
 use room::layout::BOOK;
 use room::layout::CONDITION_PLACES;
 use room::layout::ENDS;
@@ -19,6 +18,7 @@ use room::layout::ROWS;
 use room::layout::RULE_CONDITIONS;
 use room::layout::RULE_PLACES;
 use room::layout::SLOTS;
+use row::row::make_row;
 use weave::view::bit_at;
 
 // Whether row s has the bits of the first n conditions of a row made anew.
@@ -43,21 +43,23 @@ pub fn rows_agree(room: &[u8]) -> bool
 {
     let n = two_at(room, 4);
     let end = BOOK + two_at(room, 8);
-    let rules = two_at(room, 10);
     let conditions = two_at(room, 12);
     let mut i: usize = 0;
     while i < n {
         let s = room[ORDER + i] as usize;
         let w = reading_at(&room[SLOTS..ROWS], s);
         let mut touched = [0u8; 32];
-        let row = make_row(
+        let mut firsts = [0u8; 32];
+        let made = make_row(
             &room[BOOK..end],
             &room[CONDITION_PLACES..RULE_PLACES],
             &room[RULE_CONDITIONS..ENDS],
-            rules,
             &mut touched[..],
+            &mut firsts[..],
+            conditions,
             w,
         );
+        let row = made.bits;
         if !row_agrees(&room[ROWS..NODES], s, &row[..], conditions) {
             return false;
         }

@@ -1,5 +1,4 @@
 -- A complaint as a line of bytes. Assumes nothing: these are definitions.
-use mathlib.Core.Path.{_≡_}
 use Prim.Native.Nat.{ℕ}
 use mathlib.Core.Bool.{cond, _&&_}
 use mathlib.Core.List.{List, [], _∷_, _++_}

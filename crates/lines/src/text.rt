@@ -2,7 +2,6 @@
 ghost use mathlib.Core.Path.{_≡_};
 ghost use Prim.Native.Nat.{_+_, _≤_, _<_};
 ghost use lib.ListN.{length, take};
-ghost use Rattle.numbers.specs.Digits.{digits};
 ghost use Rattle.numbers.specs.Spliced.{spliced};
 ghost use Rattle.lines.specs.Line.{entry, entries, trimmed, ending, lineText, lengthIn, textIn};
 use numbers::put_digits;

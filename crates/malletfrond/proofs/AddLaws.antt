@@ -19,7 +19,7 @@ use Rattle.room.specs.Broken.{broken}
 use Rattle.room.specs.Layout.{headNumber, limit, parts, orderPart, slotsPart}
 use Rattle.room.specs.Held.{held, completeOf}
 use Rattle.room.proofs.BrokenLaws.{not-broken-whole}
-use Rattle.rete.specs.Row.{standsAt}
+use Rattle.row.specs.Row.{standsAt}
 use Rattle.weave.proofs.Grown.{le-or-lt}
 use Rattle.step.specs.Worked.{AddedAt}
 use Rattle.malletfrond.specs.declared.StepAnswer.the-variants as a

@@ -21,7 +21,7 @@ use Rattle.room.specs.Layout.{headNumber, parts, conditionPlacesPart, orderPart
 use Rattle.room.specs.Broken.{broken}
 use Rattle.room.specs.Held.{Held, Once, Arranged, held, slotsOf}
 use Rattle.room.proofs.BrokenLaws.{agreed, Whole, not-broken-whole}
-use Rattle.rete.specs.Row.{bookFlags}
+use Rattle.row.specs.Row.{bookFlags}
 use Rattle.rete.specs.Rules.{rulesBuilt, endsBuilt, completesBuilt}
 use Rattle.step.proofs.Lending.{number-read}
 use Rattle.checking.specs.Checked.{bookIn, countsIn, readIn, passIn, Indexed, Rises, RowsAgree, Rebuilt}

@@ -21,7 +21,7 @@ use Rattle.matching.proofs.Laws.Orders.{mem-inserted, without-inserted}
 use Rattle.matching.proofs.Laws.ReadingOrder.{isSame-exact}
 use Rattle.matching.proofs.Laws.Steps.{opened-settled, readings-unique, added-accepted}
 use Rattle.room.specs.Held.{Held, held}
-use Rattle.rete.proofs.OrderLaws.{mem-at}
+use Rattle.row.proofs.OrderLaws.{mem-at}
 use Rattle.malletfrond.specs.declared.StepAnswer.{StepAnswer}
 use Rattle.malletfrond.specs.declared.StepAnswer.the-variants as a
 use Rattle.malletfrond.specs.declared.LineAnswer.{LineAnswer}

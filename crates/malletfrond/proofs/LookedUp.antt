@@ -18,7 +18,7 @@ use Rattle.room.specs.Layout.{headNumber, limit, parts, orderPart, slotsPart}
 use Rattle.room.specs.Parts.{part}
 use Rattle.room.proofs.BrokenLaws.{Whole, not-broken-whole}
 use Rattle.room.proofs.Large.{large-part}
-use Rattle.rete.specs.Row.{leading, lesser, standsAt}
+use Rattle.row.specs.Row.{leading, lesser, standsAt}
 use Rattle.step.specs.Worked.{AddedAt, RemovedAt}
 use Rattle.step.proofs.Lending.{in-room, number-read}
 use Rattle.malletfrond.specs.declared.StepAnswer.the-variants as a

@@ -11,10 +11,10 @@ use Rattle.book.specs.Read.{readBook, accepted}
 use Rattle.book.specs.Limits.{All}
 use Rattle.reading.specs.declared.Reading.{Reading}
 use Rattle.reading.specs.Reading.{isLess}
-use Rattle.matching.specs.Complaints.{Matched, Before, levels, passOf, complaints, bookCount}
+use Rattle.matching.specs.Complaints.{Matched, Before, levels, passOf, bookCount}
 use Rattle.matching.specs.Match.{IsMatch}
 use Rattle.matching.specs.Order.{Less, Sorted, Lex}
-use Rattle.matching.specs.Step.{State, add, remove}
+use Rattle.matching.specs.Step.{add, remove}
 use Rattle.room.specs.Layout.{formula, headNumber, limit}
 use Rattle.room.specs.Held.{held}
 use Rattle.malletfrond.specs.declared.OpenAnswer.the-variants as o

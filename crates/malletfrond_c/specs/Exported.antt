@@ -2,9 +2,7 @@
 -- for; a result that is not there leaves the number lent for it as it was. Assumes nothing: these are definitions.
 use mathlib.Core.Path.{_≡_}
 use Prim.Native.Nat.{ℕ}
-use mathlib.Core.Bool.{Bool, cond}
 use mathlib.Core.List.{List}
-use Rattle.reading.specs.declared.Reading.{Reading}
 use Rattle.matching.specs.Step.{Step}
 use Rattle.book.specs.Read.{readBook}
 use Rattle.book.specs.Wording.{wordingPlace}
@@ -18,7 +16,7 @@ use Rattle.malletfrond.specs.declared.StepAnswer.{StepAnswer}
 use Rattle.malletfrond.specs.declared.StepAnswer.the-variants as a
 use Rattle.malletfrond.specs.declared.LineAnswer.{LineAnswer}
 use Rattle.malletfrond.specs.declared.LineAnswer.the-variants as l
-use Rattle.malletfrond.specs.Promise.{Opens, Counts, Steps, Lines, Checks}
+use Rattle.malletfrond.specs.Promise.{Opens, Counts, Steps, Lines}
 
 -- a refusal's number, 0 for none
 unfoldable pub openNumber : OpenAnswer → ℕ

@@ -1,6 +1,6 @@
 // Numbers in bytes: big-endian and two's complement, as the rule book and the room keep them, and decimal digits, as a line shows them.
 ghost use mathlib.Core.Path.{_≡_};
-ghost use Prim.Native.Nat.{ℕ, _+_, _^_, _≤_, _<_};
+ghost use Prim.Native.Nat.{_+_, _^_, _≤_, _<_};
 ghost use lib.ListN.{length, getD};
 ghost use Rattle.numbers.specs.BigEndian.{uint, bytes};
 ghost use Rattle.numbers.specs.Digits.{digits};

@@ -1,4 +1,3 @@
 pub mod Sift
-pub mod Row
 pub mod Rules
 pub mod Cut

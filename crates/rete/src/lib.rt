@@ -1,5 +1,3 @@
 // One step over the parts of a room that is only read: the tokens after it, worked out aside.
-pub mod order;
-pub mod row;
 pub mod rules;
 pub mod sift;

@@ -22,16 +22,16 @@ use Rattle.matching.proofs.Laws.Orders.{inserted-sorted}
 use Rattle.matching.proofs.Laws.ReadingOrder.{isLess-order, isSame-exact}
 use Rattle.room.specs.Broken.{sum}
 use Rattle.room.specs.Parts.{twos}
-use Rattle.room.specs.Layout.{headNumber, limit, parts, conditionPlacesPart, completesPart, orderPart, slotsPart, rowsPart, nodesPart, lastsPart}
+use Rattle.room.specs.Layout.{headNumber, limit, parts, conditionPlacesPart, endsPart, completesPart, orderPart, slotsPart, rowsPart, nodesPart, lastsPart}
 use Rattle.room.specs.Held.{held, inMemory, slotsOf}
 use Rattle.room.specs.Written.{slotsWith, rowsWith}
 use Rattle.room.proofs.BrokenLaws.{Whole, not-broken-whole}
 use Rattle.room.proofs.Put.{length-part}
-use Rattle.rete.specs.Row.{RowOf, bookFlags, lesser, movedIn}
+use Rattle.row.specs.Row.{RowOf, bookFlags, lesser, movedIn}
 use Rattle.rete.specs.Rules.{rulesBuilt, completesBuilt, Stretches, Told}
 use Rattle.weave.specs.View.{readOf, bitOf, passOf, read, pass}
 use Rattle.weave.specs.Weave.{before, Woven}
-use Rattle.rete.proofs.OrderLaws.{leading-within, take-movedIn, once-movedIn}
+use Rattle.row.proofs.OrderLaws.{leading-within, take-movedIn, once-movedIn}
 use Rattle.step.specs.Worked.{bookIn, countsIn, endsIn, fullsIn, slotIn, viewIn, seenIn, AddedAt}
 use Rattle.checking.proofs.Extent.{told-ext}
 use Rattle.sound.specs.Sound.{Sound, stateOf}
@@ -189,7 +189,7 @@ module _ (room : List ℕ) (s : Sound room) (w : Reading) (new : present (stateO
     order-next = ap (take (headNumber room 2 + 1)) moved-in ∙ order-with
 
     told-seen : Told (limit room) (orderWith room w) (read (seenIn room (added .row) w)) (pass (seenIn room (added .row) w)) (countsOf room s) (replicate 2048 0) (replicate 2048 0)
-        (replicate 32 0) (twos 32 (completesPart (parts room))) tokens complete (added .aside .nodes) (added .aside .lasts) (added .aside .ends) (added .aside .completes)
+        (twos 32 (endsPart (parts room))) (twos 32 (completesPart (parts room))) tokens complete (added .aside .nodes) (added .aside .lasts) (added .aside .ends) (added .aside .completes)
     told-seen =
         rw (order-next, sound-counts room s) at
         (added .woven .does (early room w) (late room w) (rw order-next (order-woven (added .row))) (old-stretches (added .row)) (old-completes (added .row)))
@@ -235,7 +235,7 @@ module _ (room : List ℕ) (s : Sound room) (w : Reading) (new : present (stateO
             fits = few;
             ns = replicate 2048 0;
             ls = replicate 2048 0;
-            es = replicate 32 0;
+            es = twos 32 (endsPart (parts room));
             ms = twos 32 (completesPart (parts room));
             told = rw (is, added .tokens-are)
                 (told-ext (orderWith room w) sees (readingAt slots) (pass (seenIn room row w)) (passSlot (readingAt slots) (inMemory rows) (testsIn room)) (λ t m. next-read t) 192

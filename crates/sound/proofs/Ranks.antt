@@ -23,8 +23,8 @@ use Rattle.room.specs.Layout.{headNumber, parts, orderPart, slotsPart}
 use Rattle.room.specs.Held.{held, slotsOf}
 use Rattle.room.proofs.BrokenLaws.{agreed, Whole, not-broken-whole}
 use Rattle.room.proofs.Put.{length-part}
-use Rattle.rete.specs.Row.{leading, lesser, standsAt}
-use Rattle.rete.proofs.OrderLaws.{mem-at, rank, leading-low, leading-high}
+use Rattle.row.specs.Row.{leading, lesser, standsAt}
+use Rattle.row.proofs.OrderLaws.{mem-at, rank, leading-low, leading-high}
 use Rattle.sound.specs.Sound.{Sound, stateOf}
 use Rattle.sound.proofs.SoundRoom.{readIn}
 

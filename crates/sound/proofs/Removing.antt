@@ -27,9 +27,9 @@ use Rattle.room.specs.Held.{Once, times, held, slotsOf}
 use Rattle.room.proofs.BrokenLaws.{Whole, not-broken-whole}
 use Rattle.room.proofs.Order.{times-append}
 use Rattle.rete.specs.Rules.{Told}
-use Rattle.rete.specs.Row.{movedOut}
+use Rattle.row.specs.Row.{movedOut}
 use Rattle.rete.specs.Sift.{others}
-use Rattle.rete.proofs.OrderLaws.{take-movedOut, once-movedOut}
+use Rattle.row.proofs.OrderLaws.{take-movedOut, once-movedOut}
 use Rattle.step.specs.Worked.{slotIn, countsIn, RemovedAt}
 use Rattle.sound.specs.Sound.{Sound}
 use Rattle.sound.proofs.Agree.{Bits, bits-either}

@@ -1,8 +1,8 @@
 -- A step sees a room together with a reading at a slot that is not in use: at the slots in use what the room says, at the added slot what its row says.
 -- So an added slot passes as its reading does, too. The flags that its row is made of are the bits that a reading tells. Assumes nothing.
-use Prim.Native.Nat.{ℕ, zero, suc, _+_, _*_, _≤_, _<_}
-use mathlib.Core.Path.{_≡_, refl, sym, ap, _∙_}
-use mathlib.Core.Bool.{Bool, true, false, cond}
+use Prim.Native.Nat.{ℕ, _+_, _*_, _≤_}
+use mathlib.Core.Path.{_≡_, sym, ap, _∙_}
+use mathlib.Core.Bool.{true, false}
 use mathlib.Core.Logic.{_⊎_}
 use mathlib.Core.List.{List, [], _∷_, map, List·Memᴰ, List·Memᴰ·eq-of-singleton, Memᴰ·cast}
 use native.Mathlib.Nat.{zero-add}
@@ -17,12 +17,12 @@ use Rattle.book.specs.Stands.{conditionsOf}
 use Rattle.book.specs.Tests.{testsAt}
 use Rattle.reading.specs.declared.Reading.{Reading}
 use Rattle.reading.specs.Reading.{readingAt}
-use Rattle.matching.specs.Passes.{alpha}
 use Rattle.matching.specs.Complaints.{levels, testsOf}
 use Rattle.room.specs.Broken.{sum}
 use Rattle.room.specs.Held.{inMemory}
 use Rattle.weave.specs.declared.view.View.{View}
-use Rattle.rete.specs.Row.{flag, flagsFrom, bookFlags, RowOf}
+use Rattle.row.specs.Row.{flag, flagsFrom, bookFlags, RowOf}
+use Rattle.row.proofs.RowLaws.{length-flagsFrom, flag-bit, getD-flagsFrom}
 use Rattle.rete.specs.Rules.{completesBuilt, Stretches}
 use Rattle.weave.specs.View.{readOf, bitOf, passOf, seen, read, pass}
 use Rattle.checking.proofs.Extent.{completesBuilt-ext, stretches-ext}
@@ -31,32 +31,6 @@ use Rattle.sound.proofs.Entries.{Entries, entries-left, entries-right}
 use Rattle.sound.proofs.TokensBuilt.{Agrees}
 
 -- ---- flags: what the row of an added reading is made of
-
-module _ (book places : List ℕ) (w : Reading) where
-  length-flagsFrom : (k c level : ℕ) → length (flagsFrom book places w k c level) ≡ k
-  unfolding flagsFrom
-  length-flagsFrom zero c level = refl
-  length-flagsFrom (suc k) c level = ap suc (length-flagsFrom k (c + 1) (level + 1))
-
-  flag-bit : (c level : ℕ) → eqb (flag book places w c level) 1 ≡ alpha (testsAt book (uint 2 places (c * 2))) level w
-  unfolding flag
-  flag-bit c level = by (alpha (testsAt book (uint 2 places (c * 2))) level w)
-    where
-      by : (b : Bool) → eqb (cond b 1 0) 1 ≡ b
-      by true = refl
-      by false = refl
-
-  getD-flagsFrom : (k c level j : ℕ) → j < k → getD (flagsFrom book places w k c level) j 0 ≡ flag book places w (c + j) (level + j)
-  unfolding flagsFrom
-  getD-flagsFrom zero c level j h = absurd (omega arith)
-  getD-flagsFrom (suc k) c level zero h =
-      let e : c ≡ c + zero = omega arith in
-      let f : level ≡ level + zero = omega arith in
-      rw (← e, ← f)
-  getD-flagsFrom (suc k) c level (suc j) h =
-      let e : c + 1 + j ≡ c + suc j = omega arith in
-      let f : level + 1 + j ≡ level + suc j = omega arith in
-      rw (← e, ← f) (getD-flagsFrom k (c + 1) (level + 1) j (omega arith))
 
 module _ (book places : List ℕ) where
   -- the tests of condition c, as they stand at its place

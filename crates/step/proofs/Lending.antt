@@ -17,9 +17,10 @@ use Rattle.room.proofs.BrokenLaws.{Whole, headNumber-at, not-broken-whole}
 use Rattle.room.proofs.Large.{large-part}
 use Rattle.room.proofs.Put.{length-part}
 use Rattle.weave.specs.View.{seen}
-use Rattle.rete.specs.Row.{RowOf, bookFlags, movedIn}
+use Rattle.row.specs.Row.{RowOf, bookFlags, movedIn}
 use Rattle.weave.specs.Weave.{Lent}
 use Rattle.rete.specs.Rules.{Weaves, Tables}
+use Rattle.row.proofs.Sums.{sum-take-le}
 use Rattle.step.specs.Worked.{bookIn, slotIn, AddedAt}
 
 -- what lies before the tokens is in the room
@@ -50,7 +51,7 @@ known room h t r s =
 abbrev pub zeros : ℕ → List ℕ
 zeros n = replicate n 0
 
-length-zeros : (n : ℕ) → length (zeros n) ≡ n
+pub length-zeros : (n : ℕ) → length (zeros n) ≡ n
 length-zeros n = length-replicate n 0
 
 -- the tokens' nodes and last slots as they are lent
@@ -96,16 +97,30 @@ module _ {room : List ℕ} {T n rules : ℕ} (k : Known room T n rules) where
   pub slot-read : (p : ℕ) → p < 256 → getD room (8816 + p) 0 ≡ slotIn room p
   slot-read p h = sym (getD-take 256 (drop 8816 room) p 0 h ∙ getD-drop 8816 room p 0)
 
-  -- ---- what the walk over the rules asks
+  -- ---- what making a row asks
 
-  pub conditions-few : sum (take rules (part room 8656 32)) ≤ 192
+  conditions-few : sum (take rules (part room 8656 32)) ≤ 192
   conditions-few =
       let total : sum (take rules (part room 8656 32)) ≡ headNumber room 6 = rw (k .rules-is) (k .whole .total) in
       omega arith
 
-  -- a byte for each rule
-  pub bytes-enough : {size : ℕ} → size ≡ length (zeros 32) → rules ≤ size
-  bytes-enough same = omega (arith, length-zeros 32)
+  -- the conditions as they are read: those of the rules, and no more than the whole table tells
+  pub conditions-are : {conditions : ℕ} → conditions ≡ uint 2 room 12 → sum (take rules (part room 8656 32)) ≡ conditions
+  conditions-are e = rw (k .rules-is) (k .whole .total ∙ sym (number-read room 6 (omega arith) e))
+
+  pub conditions-told : {conditions : ℕ} → conditions ≡ uint 2 room 12 → conditions ≤ sum (part room 8656 32)
+  conditions-told e =
+      omega (
+        arith,
+        conditions-are e,
+        sum-take-le (part room 8656 32) rules 32 (omega arith),
+        ap sum (take-take 32 32 (drop 8656 room) (omega arith)),
+      )
+
+  pub conditions-low : {conditions : ℕ} → conditions ≡ uint 2 room 12 → conditions ≤ 192
+  conditions-low e = omega (arith, conditions-are e, conditions-few)
+
+  -- ---- what the walk over the rules asks
 
   planes-long : T ≤ length (zeros 2048)
   planes-long = omega (arith, length-zeros 2048)
@@ -167,7 +182,7 @@ module _ {room : List ℕ} {T n rules : ℕ} (k : Known room T n rules) where
       → Weaves
       (seen (part room 16 (16 + L - 16)) (part room 8208 384) (part room 9072 3072) (part room 12144 6144) row (record { slot = getD room (8816 + n) 0; w = w }))
       (take (n + 1) (s .order)) (nodesLent room T) (lastsLent room T) T (twos rules (part room 8688 64)) (twos rules (part room 8752 64)) (take rules (part room 8656 32))
-      (zeros 2048) (zeros 2048) (zeros 32) (twos 32 (part room 8752 64)) tokens complete (s .nodes) (s .lasts) (s .ends) (s .completes)
+      (zeros 2048) (zeros 2048) (twos 32 (part room 8688 64)) (twos 32 (part room 8752 64)) tokens complete (s .nodes) (s .lasts) (s .ends) (s .completes)
       → (T < tokens → room' ≡ room)
       → (tokens ≤ T → cut 0 (widths T) room'
       ≡ stepped s (slotsWith (cut 0 (widths T) room) (getD room (8816 + n) 0) w) (rowsWith (cut 0 (widths T) room) (getD room (8816 + n) 0) row) (cut 0 (widths T) room))

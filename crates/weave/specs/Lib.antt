@@ -3,3 +3,4 @@ pub mod Built
 pub mod Weave
 pub mod Blocks
 pub mod Near
+pub mod Spun

@@ -8,18 +8,21 @@ use native.Mathlib.Omega.{arith}
 use borrow.Author.Tests.{not-true, not-false}
 use borrow.Author.Count.{below-none, below-more}
 use borrow.Author.Needs.{needs}
-use lib.ListN.{getD, length-take, length-drop}
+use lib.ListN.{take, drop, getD, length-take, length-drop}
+use Rattle.room.specs.Parts.{part}
+use Rattle.row.specs.Row.{RowOf, bookFlags}
+use Rattle.checking.specs.Checked.{countsIn}
 use Rattle.checking.proofs.Answers.{yes, no}
 use Rattle.checking.proofs.RowsLaws.{RowAgrees, rows-known, row-known}
-use Rattle.checking.proofs.Numbers.{Numbered, bounds, row-asked}
+use Rattle.checking.proofs.Numbers.{Numbered, bounds, rules-few, conditions-are, row-asked}
 use Rattle.checking.proofs.memories.rows_agree.Statement.{statement}
 use Rattle.checking.proofs.memories.rows_agree.Tie as tie
 
 abbrev Inv-loop : tie.InvT-loop
-Inv-loop room n end rules conditions i₀ i = (i ≤ n) × (Numbered room n end rules conditions × ((k : ℕ) → k < i → RowAgrees room (getD room (8816 + k) 0)))
+Inv-loop room n end conditions i₀ i = (i ≤ n) × (Numbered room n end conditions × ((k : ℕ) → k < i → RowAgrees room (getD room (8816 + k) 0)))
 
 abbrev μ-loop : tie.MeasureT-loop
-μ-loop room n end rules conditions i₀ i = n - i
+μ-loop room n end conditions i₀ i = n - i
 
 two-at-requires : tie.Need-two-at-requires Inv-loop μ-loop
 two-at-requires c κs = let b = bounds _ (c .before .pre) in omega arith
@@ -33,19 +36,15 @@ add-end c = search needs
 two-at-requires-3 : tie.Need-two-at-requires-3 Inv-loop μ-loop
 two-at-requires-3 c κs = let b = bounds _ (c .before .before .before .pre) in omega arith
 
-two-at-requires-4 : tie.Need-two-at-requires-4 Inv-loop μ-loop
-two-at-requires-4 c κs = let b = bounds _ (c .before .before .before .before .pre) in omega arith
-
 loop-holds : tie.Need-loop-holds Inv-loop μ-loop
 loop-holds c = (
   omega arith,
   (
     record {
-      bounded = bounds _ (c .before .before .before .before .before .pre);
-      readings = c .before .before .before .two-at .ensures .0;
+      bounded = bounds _ (c .before .before .before .before .pre);
+      readings = c .before .before .two-at .ensures .0;
       book = omega arith;
-      rules = c .before .two-at3 .ensures .0;
-      conditions = c .two-at4 .ensures .0;
+      conditions = c .two-at3 .ensures .0;
     },
     below-none _,
   ),
@@ -102,10 +101,13 @@ part-make-row-end-3 c = let l = c .before .before .before .before .before .befor
 slice-aggregate-make-row : tie.Need-slice-aggregate-make-row Inv-loop μ-loop
 slice-aggregate-make-row c = search needs
 
+slice-aggregate-make-row-2 : tie.Need-slice-aggregate-make-row-2 Inv-loop μ-loop
+slice-aggregate-make-row-2 c = search needs
+
 make-row-requires : tie.Need-make-row-requires Inv-loop μ-loop
 make-row-requires c κs =
-    let l = c .before .before .before .before .before .before .before .before .loop in
-    row-asked _ _ _ _ _ (l .inv .1 .0)
+    let l = c .before .before .before .before .before .before .before .before .before .loop in
+    row-asked _ _ _ _ (l .inv .1 .0)
 
 sub-row-agrees : tie.Need-sub-row-agrees Inv-loop μ-loop
 sub-row-agrees c = search needs
@@ -114,42 +116,62 @@ part-row-agrees-start : tie.Need-part-row-agrees-start Inv-loop μ-loop
 part-row-agrees-start c = search needs
 
 part-row-agrees-end : tie.Need-part-row-agrees-end Inv-loop μ-loop
-part-row-agrees-end c = let l = c .before .before .before .before .before .before .before .before .before .before .loop in omega arith
+part-row-agrees-end c = let l = c .before .before .before .before .before .before .before .before .before .before .before .before .before .loop in omega arith
+
+-- where the row was made, its reading was read, and the start
+abbrev made-at : tie.After-row-agrees Inv-loop μ-loop → tie.After-make-row Inv-loop μ-loop
+made-at c = c .before .before .before .before .before .before
+
+abbrev read-at : tie.After-make-row Inv-loop μ-loop → tie.After-reading-at Inv-loop μ-loop
+read-at c = c .before .before .before .before .before .before
+
+abbrev start : tie.After-reading-at Inv-loop μ-loop → tie.Start Inv-loop μ-loop
+start c = c .before .before .before .before .before .before .before .before .before
+
+-- the row made for the slot at this place of the order
+row-made : (c : tie.After-make-row Inv-loop μ-loop) →
+    let read = read-at c in
+    let room = start read .args .room .now in
+    let end = read .before .before .before .before .before .before .two-at2 .result in
+    RowOf (c .make-row .result .bits) (bookFlags (take (16 + end - 16) (drop 16 room)) (part room 8208 384) (read .reading-at .result) 0 (countsIn room))
+row-made c =
+    let a = read-at c .before .before .before .before .loop .inv .1 .0 in
+    c .make-row .ensures _ (rules-few _ _ _ _ a) (conditions-are _ _ _ _ a) .0
 
 slice-aggregate-row-agrees : tie.Need-slice-aggregate-row-agrees Inv-loop μ-loop
-slice-aggregate-row-agrees c = search needs
+slice-aggregate-row-agrees c = sym (row-made (c .before .before .before .before .before) .long)
 
 row-agrees-requires : tie.Need-row-agrees-requires Inv-loop μ-loop
 row-agrees-requires c κs =
-    let l = c .before .before .before .before .before .before .before .before .before .before .before .before .loop in
-    let slot = c .before .before .before .before .before .before .before .before .before .before .shared-slice-known2 .given (8816 + l .i) in
-    (simp (length-take, length-drop) (omega arith), (c .before .before .before .make-row .ensures .0 .long, omega arith))
+    let l = c .before .before .before .before .before .before .before .before .before .before .before .before .before .before .before .loop in
+    let slot = c .before .before .before .before .before .before .before .before .before .before .before .before .before .shared-slice-known2 .given (8816 + l .i) in
+    (simp (length-take, length-drop) (omega arith), (row-made (c .before .before .before .before .before) .long, omega arith))
 
--- the answer on the slot at this place of the order
+-- the answer on it
 answered : (c : tie.After-row-agrees Inv-loop μ-loop) →
-    let l = c .before .before .before .before .before .before .before .before .before .before .before .before .before .loop in
-    let room = c .before .before .before .before .before .before .before .before .before .before .before .before .before .before .before .before .before .before .before .args .room .now in
-    (c .row-agrees .result ≡ true) ↔ RowAgrees room (getD room (8816 + l .i) 0)
+    let read = read-at (made-at c) in
+    let room = start read .args .room .now in
+    (c .row-agrees .result ≡ true) ↔ RowAgrees room (getD room (8816 + read .before .before .before .before .loop .i) 0)
 answered c =
-    let read = c .before .before .before .before .before .before .before .before .before in
-    row-known _ _ _ _ _ (read .before .before .before .before .loop .inv .1 .0) _ _ _ _ (read .reading-at .ensures) (c .before .before .before .before .make-row .ensures .0) (c .row-agrees .ensures)
+    let read = read-at (made-at c) in
+    row-known _ _ _ _ (read .before .before .before .before .loop .inv .1 .0) _ _ _ _ (read .reading-at .ensures) (row-made (made-at c)) (c .row-agrees .ensures)
 
 returns : tie.Need-returns Inv-loop μ-loop
 returns c =
-    let l = c .before .before .before .before .before .before .before .before .before .before .before .before .before .before .loop in
+    let l = c .before .before .before .before .before .before .before .before .before .before .before .before .before .before .before .before .before .loop in
     no λ all.
     let own = rows-known _ (l .inv .1 .0 .bounded) .0 all (l .i) (omega arith) in
     false≢true (sym (not-true _ (c .if1 .taken)) ∙ answered (c .before) .1 own)
 
 add-i : tie.Need-add-i Inv-loop μ-loop
-add-i c = let l = c .before .before .before .before .before .before .before .before .before .before .before .before .before .before .loop in omega arith
+add-i c = let l = c .before .before .before .before .before .before .before .before .before .before .before .before .before .before .before .before .before .loop in omega arith
 
 loop-less : tie.Need-loop-less Inv-loop μ-loop
-loop-less c = let l = c .before .before .before .before .before .before .before .before .before .before .before .before .before .before .loop in omega arith
+loop-less c = let l = c .before .before .before .before .before .before .before .before .before .before .before .before .before .before .before .before .before .loop in omega arith
 
 loop-again : tie.Need-loop-again Inv-loop μ-loop
 loop-again c =
-    let l = c .before .before .before .before .before .before .before .before .before .before .before .before .before .before .loop in
+    let l = c .before .before .before .before .before .before .before .before .before .before .before .before .before .before .before .before .before .loop in
     (omega arith, (l .inv .1 .0, below-more _ _ (l .inv .1 .1) (answered (c .before) .0 (not-false _ (c .if1 .left)))))
 
 returns-2 : tie.Need-returns-2 Inv-loop μ-loop
@@ -167,7 +189,6 @@ rows-agree-spec =
     two-at-requires-2
     add-end
     two-at-requires-3
-    two-at-requires-4
     loop-holds
     add-s
     shared-slice-read-s
@@ -186,6 +207,7 @@ rows-agree-spec =
     part-make-row-start-3
     part-make-row-end-3
     slice-aggregate-make-row
+    slice-aggregate-make-row-2
     make-row-requires
     sub-row-agrees
     part-row-agrees-start
