@@ -5,13 +5,10 @@ pub mod Grown
 pub mod LentLaws
 pub mod MovedLaws
 pub mod OldLaws
-pub mod Pairs
 pub mod Planes
-pub mod Settled
 pub mod SplicedLaws
 pub mod ViewLaws
 pub mod Written
 pub mod NearLaws
 pub mod Reach
 pub mod Seeking
-pub mod Leaves

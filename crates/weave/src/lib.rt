@@ -1,8 +1,6 @@
 // The tokens of one rule with an added reading: made below each token that it can stand below, and woven in among the old ones.
 pub mod blocks;
 pub mod copy;
-pub mod join;
 pub mod near;
-pub mod settle;
 pub mod span;
 pub mod view;
