@@ -1,3 +1,3 @@
-// One step over the parts of a room that is only read: the tokens after it, worked out aside.
+// One step over the tokens of all rules: those after an addition, worked out aside, and those after a removal, in their place.
 pub mod rules;
 pub mod sift;

@@ -1,4 +1,4 @@
-// The tokens of one rule with an added reading: made below each token that it can stand below, and woven in among the old ones.
+// An added reading beside a room that is only read: what is seen of both, and which slots and old tokens are near enough to matter. And bytes passed, found and moved in blocks.
 pub mod blocks;
 pub mod copy;
 pub mod near;
