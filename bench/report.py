@@ -48,7 +48,7 @@ def tables(rows, dear, series):
         yield ("Malletfrond's cost over the other's; under 1 is cheaper.", ("workload", "against") + HEADINGS,
                [(w, other, *cells) for w, other, cells in compared])
     if dear:
-        yield ("Single steps near the limits: one addition, and the removal of the same reading.",
+        yield ("The dearest single steps within the limits: one addition, and the removal of the same reading.",
                ("step", "matcher", "add", "remove"), [(w, m, number(a), number(r)) for w, m, a, r in dear])
     for title in dict.fromkeys(t for t, _, _ in series):
         lines = []

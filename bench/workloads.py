@@ -2,7 +2,7 @@
 
     workloads.py FOLDER     writes FOLDER/NAME/rules.bk and FOLDER/NAME/steps.bk for each workload
 
-A workload is a `Workload`: a name, a book, steps. `named()` are those of the table, `dearest()` single steps near the limits, `growth()` the series in which one
+A workload is a `Workload`: a name, a book, steps. `named()` are those of the table, `dearest()` the single steps that cost most, `growth()` the series in which one
 size is doubled at a time.
 """
 
@@ -321,7 +321,7 @@ def dearest_steps():
 
 def dearest():
     """Eight gaps, which a matcher may draw together to one range for each place, and eight inequalities, which it cannot. Other choices of eight tests, and rules of
-    six conditions, move the cost by a few percent: docs/PERFORMANCE.md has the dearest known."""
+    six conditions, were tried: they move the cost by a few percent."""
     far, places = 1000000, (LINE, COLUMN, VALUE)
     gaps = [gap(p, 0, p, -far, TOP) for p in places] + [gap(p, 1, p, -TOP, far) for p in places]
     gaps += [gap(VALUE, 0, LINE, -far, TOP), gap(VALUE, 1, VALUE, far, TOP)]

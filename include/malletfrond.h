@@ -1,40 +1,27 @@
 /* Malletfrond: a rule matcher over meter readings, in memory that the caller lends.
  *
- * To compile and link (x86-64 Linux), in a checkout and installed:
- *   cc -Iinclude program.c target/staticlib/libmalletfrond_c.a
- *   cc program.c $(pkg-config --cflags --libs malletfrond)
- *
- * The library allocates nothing and keeps nothing between calls; of the C library it calls memcpy and memset alone.
+ * Link with libmalletfrond_c.a (x86-64 Linux). The library allocates nothing and keeps nothing between calls; of the C library it calls memcpy and memset alone.
  *
  * A ROOM is memory that holds a rule book, two limits, the readings present and what is matched. It is opened once and then lent whole, from its first byte, to
  * every call. It needs no alignment and may lie anywhere; it may be copied byte for byte. It needs MALLETFROND_ROOM(t) bytes; more may be lent, and what lies
- * behind those is never touched. A slice is a pointer and a number of bytes (of rows: of numbers); the pointer of an empty one is not read.
+ * behind those is never touched. A slice is a pointer and a number of bytes; the pointer of an empty one is not read.
  *
  * Two things that are lent to one call must not overlap: not the room and a buffer, not two of the numbers that results are written through.
  *
- * A call answers 0 for accepted, else the number of its refusal. Accepted, it writes its results and leaves *place as it was. Refused, it writes *place, leaves the
- * numbers lent for results as they were, and changes no byte of a room or buffer. The place of refusals 2 to 7 is the offset in the book of the record at fault; of
- * all others it is 0. Each number has a name and a sentence below.
+ * A call answers 0 for accepted, else the number of its refusal. A refusal changes no lent byte, and leaves the numbers lent for results as they were, except
+ * that an opening or a wording that is refused writes the refusal's place.
  *
  * Refusals, in the order in which each call tries them:
- *   malletfrond_open     8 a limit out of range; 9 the room is too short; 1 to 7 the book is not accepted
+ *   malletfrond_open     8 a limit out of range; 9 the room is too short; 1 to 7 the book is not accepted (place: offset of the record at fault, 0 for 1)
  *   malletfrond_add     10 the room is broken; 11 the reading is present; 13 as many readings as the limit; 14 more tokens than the limit
  *   malletfrond_remove  10 the room is broken; 12 the reading is not present
  *   malletfrond_counts  10 the room is broken
  *   malletfrond_line    10 the room is broken; 16 no such complaint; 15 the buffer is shorter than the line
  *   malletfrond_wording  1 to 7 the book is not accepted; 17 no rule of that number
  *   malletfrond_check   none
- *   malletfrond_write_book   1, 3 to 7 as the book would be refused, at the place where the record would have stood; 19 the buffer is shorter than the book
- *   malletfrond_read_rows    1 to 7 the book is not accepted; 19 the rows or the wordings are too few
  *
  * "Broken" is a rule over the room's first bytes (docs/ROOM.md). Memory that this library has opened and that nothing else has changed is never broken. Other memory
  * may be lent too: the calls are safe on any bytes, but what they then answer about matches means nothing.
- *
- * Stack, in kB, as tests/outside/stack measures it, those that a call calls included: open 3, add 14, remove 1.1, counts 0.1, line 0.7, wording 2.5, check 9.5,
- * read_rows 3, write_book 11. MALLETFROND_STACK is enough for any.
- *
- * Threads: calls that are lent different rooms may run at the same time. So may calls that read one room: counts, line and check. While open, add or remove has a
- * room, no other call may have it. A book is only read and may be shared by all. The library locks nothing.
  */
 #ifndef MALLETFROND_H
 #define MALLETFROND_H
@@ -47,17 +34,6 @@
 extern "C" {
 #endif
 
-#define MALLETFROND_VERSION "0.2.0"
-#define MALLETFROND_VERSION_MAJOR 0
-#define MALLETFROND_VERSION_MINOR 2
-#define MALLETFROND_VERSION_PATCH 0
-
-/* Most bytes and most rules of a book, conditions of a rule, tests of a condition. */
-#define MALLETFROND_MOST_BYTES 8192
-#define MALLETFROND_MOST_RULES 32
-#define MALLETFROND_MOST_CONDITIONS 6
-#define MALLETFROND_MOST_TESTS 8
-
 /* Most readings and most tokens that a room may be opened for. */
 #define MALLETFROND_MOST_READINGS 256
 #define MALLETFROND_MOST_TOKENS 2048
@@ -65,96 +41,30 @@ extern "C" {
 /* The bytes of a room for t tokens. The reading limit does not count: there is always place for 256. */
 #define MALLETFROND_ROOM(t) (18288 + 2 * (size_t)(t))
 
-/* No call needs more bytes of stack. */
-#define MALLETFROND_STACK 16384
-
 /* No line is longer, newline included. A wording has 24 bytes. */
 #define MALLETFROND_LINE 230
 #define MALLETFROND_WORDING 24
 
-/* The refusals. docs/BOOK.md says of each when exactly it is given. */
-#define MALLETFROND_BOOK_TOO_LONG 1
-#define MALLETFROND_CUT_SHORT 2
-#define MALLETFROND_UNKNOWN_KIND 3
-#define MALLETFROND_MISPLACED 4
-#define MALLETFROND_NUMBER_NOT_ABOVE 5
-#define MALLETFROND_BAD_BODY 6
-#define MALLETFROND_TOO_MANY 7
-#define MALLETFROND_LIMIT_OUT_OF_RANGE 8
-#define MALLETFROND_ROOM_TOO_SHORT 9
-#define MALLETFROND_ROOM_BROKEN 10
-#define MALLETFROND_READING_PRESENT 11
-#define MALLETFROND_READING_NOT_PRESENT 12
-#define MALLETFROND_READINGS_FULL 13
-#define MALLETFROND_TOKENS_FULL 14
-#define MALLETFROND_BUFFER_TOO_SHORT 15
-#define MALLETFROND_NO_SUCH_COMPLAINT 16
-#define MALLETFROND_NO_SUCH_RULE 17
-/* Given by the program alone. */
-#define MALLETFROND_FILE_NOT_OPENED 18
-#define MALLETFROND_OUTPUT_TOO_SHORT 19
-
-/* The sentence of a refusal for the people at the desk, as in docs/BOOK.md; NULL for a number that is none. */
-static inline const char *malletfrond_sentence(uint64_t refusal) {
-    static const char *const sentences[] = {
-        NULL,
-        "The rule book is too long.",
-        "The rule book is cut short; the file may not be whole.",
-        "There is something in the rule book that is no entry of one.",
-        "An entry of the rule book stands where it cannot: something before it is missing, or it comes after the end.",
-        "The rules are not in ascending order of their numbers, or a number is used twice.",
-        "An entry of the rule book says something that has no meaning, such as a range from 5 to 3.",
-        "The rule book has more rules, conditions or tests than there is place for.",
-        "The sheet was opened for too many or too few readings or partial matches.",
-        "The program has set aside too little memory for the sheet.",
-        "The memory of the sheet has been damaged; open it anew.",
-        "This reading has been entered already.",
-        "There is no such reading to withdraw.",
-        "The sheet is full.",
-        "With this reading the rules would find more partial matches than the sheet was opened for.",
-        "The program has set aside too little memory for the line.",
-        "There is no such complaint: the list ends before it.",
-        "There is no rule of that number.",
-        "The rule book or the file of steps is missing or cannot be read.",
-        "The program has set aside too little memory for the rule book.",
-    };
-    return refusal < sizeof sentences / sizeof *sentences ? sentences[refusal] : NULL;
-}
-
 /* Opens the room for a book of book_length bytes, with e (1 to 256) readings and t (1 to 2,048) tokens at most, whatever the room held before. The book is copied.
- * Accepted: *readings, *tokens and *complete are 0. */
-uint64_t malletfrond_open(uint8_t *room, size_t room_length, const uint8_t *book, size_t book_length, uint64_t e, uint64_t t, uint64_t *readings, uint64_t *tokens, uint64_t *complete, uint64_t *place);
+ * Refused: its number; *place is the offset in the book, or 0, and the room is as it was. Accepted: *place is as it was. */
+uint64_t malletfrond_open(uint8_t *room, size_t room_length, const uint8_t *book, size_t book_length, uint64_t e, uint64_t t, uint64_t *place);
 
 /* Adds a reading, or removes one. Accepted: *readings are now present, *tokens are held, and *appeared complete matches are new, or *vanished are gone. */
-uint64_t malletfrond_add(uint8_t *room, size_t room_length, uint32_t line, uint32_t column, uint32_t value, uint64_t *readings, uint64_t *tokens, uint64_t *appeared, uint64_t *place);
-uint64_t malletfrond_remove(uint8_t *room, size_t room_length, uint32_t line, uint32_t column, uint32_t value, uint64_t *readings, uint64_t *tokens, uint64_t *vanished, uint64_t *place);
+uint64_t malletfrond_add(uint8_t *room, size_t room_length, uint32_t line, uint32_t column, uint32_t value, uint64_t *readings, uint64_t *tokens, uint64_t *appeared);
+uint64_t malletfrond_remove(uint8_t *room, size_t room_length, uint32_t line, uint32_t column, uint32_t value, uint64_t *readings, uint64_t *tokens, uint64_t *vanished);
 
 /* Readings present, tokens, complete matches. */
-uint64_t malletfrond_counts(const uint8_t *room, size_t room_length, uint64_t *readings, uint64_t *tokens, uint64_t *complete, uint64_t *place);
+uint64_t malletfrond_counts(const uint8_t *room, size_t room_length, uint64_t *readings, uint64_t *tokens, uint64_t *complete);
 
 /* Writes complaint k (0, 1, 2 ..; by rule number, then by the readings from first position to last) as a line with its newline at the front of the buffer.
  * Accepted: *length is the line's length, at most MALLETFROND_LINE; bytes behind the newline are as they were. */
-uint64_t malletfrond_line(const uint8_t *room, size_t room_length, uint64_t k, uint8_t *buffer, size_t buffer_length, uint64_t *length, uint64_t *place);
+uint64_t malletfrond_line(const uint8_t *room, size_t room_length, uint64_t k, uint8_t *buffer, size_t buffer_length, uint64_t *length);
 
-/* Where in a book the 24 bytes of wording of the rule of that number stand. Accepted: *offset is where they begin. */
-uint64_t malletfrond_wording(const uint8_t *book, size_t book_length, uint64_t number, uint64_t *offset, uint64_t *place);
+/* Where in a book the 24 bytes of wording of the rule of that number stand. Accepted: *place is their offset. Refused: *place is the refusal's place. */
+uint64_t malletfrond_wording(const uint8_t *book, size_t book_length, uint64_t number, uint64_t *place);
 
 /* Whether the room holds exactly the memories and tokens that its readings and stored book define; false for a broken room. */
 bool malletfrond_check(const uint8_t *room, size_t room_length);
-
-/* ROWS are a book's values: six numbers a record, the kind and then its body's numbers in the book's order (docs/BOOK.md), gaps as the whole numbers that they are. The
- * wordings stand beside them, 24 bytes for each rule row, in order. The end record is no value: a book of no rows is its one byte. rows_length counts numbers; what is
- * left over behind the last six is no record. */
-#define MALLETFROND_ROW 6
-
-/* Writes the book of the rows and wordings at the front of the buffer. What a kind does not use is not looked at. A kind that no value has, 9 among them, is 3; a number
- * that its field cannot hold, and a wording that the wordings are too short for, is 6, in its turn. Accepted: *length is the book's length, at most 8,192; bytes behind
- * it are as they were. */
-uint64_t malletfrond_write_book(const int64_t *rows, size_t rows_length, const uint8_t *wordings, size_t wordings_length, uint8_t *buffer, size_t buffer_length, uint64_t *length, uint64_t *place);
-
-/* Reads a book into rows and wordings; what a kind does not use is written as 0. Accepted: *records are how many rows there are, *rules how many of them are rules; what lies
- * behind 6 times *records numbers and 24 times *rules bytes is as it was. Written again, they give the book, byte for byte. */
-uint64_t malletfrond_read_rows(const uint8_t *book, size_t book_length, int64_t *rows, size_t rows_length, uint8_t *wordings, size_t wordings_length, uint64_t *records, uint64_t *rules, uint64_t *place);
 
 #ifdef __cplusplus
 }

@@ -1,4 +1,4 @@
-"""Writes the sample folders: book A of docs/BOOK.md, and a shift's logbook.
+"""Writes the sample folders: document 01's book A, and a shift's logbook.
 
     make.py FOLDER      writes FOLDER/book-a and FOLDER/shift
 

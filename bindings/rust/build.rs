@@ -8,13 +8,6 @@ fn main() {
         let here = std::env::var_os("CARGO_MANIFEST_DIR").expect("cargo sets CARGO_MANIFEST_DIR");
         PathBuf::from(here).join("../../target/staticlib")
     });
-    let archive = folder.join("libmalletfrond_c.a");
-    println!("cargo:rerun-if-changed={}", archive.display());
-    if !archive.is_file() {
-        eprintln!("{} is not there.", archive.display());
-        eprintln!("Run `rt staticlib malletfrond_c` in the folder of the repository, which writes it, or set MALLETFROND_LIB to the folder that has it.");
-        std::process::exit(1);
-    }
     println!("cargo:rustc-link-search=native={}", folder.display());
     println!("cargo:rustc-link-lib=static=malletfrond_c");
 }

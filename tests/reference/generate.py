@@ -79,7 +79,7 @@ LIST = b"\x03"
 # ------------------------------------------------------ books with a name
 
 def book_a():
-    """Book A of docs/BOOK.md."""
+    """Document 01's book A."""
     return (rule(7, b"jump over 500")
             + COND + constant(1, 0, 3)
             + COND + constant(1, 0, 3) + gap(0, 0, 0, 1, 1)
@@ -88,7 +88,7 @@ def book_a():
 
 
 def book_b():
-    """Book B of docs/BOOK.md: two conditions without tests."""
+    """Document 01's book B: two conditions without tests."""
     return free_book(1, 2)
 
 
@@ -113,7 +113,7 @@ def rich_book():
 
 
 def jump_steps():
-    """The steps that docs/BOOK.md prints for book A."""
+    """The steps that document 01 prints for book A."""
     return (add(12, 3, 140) + add(13, 3, 710) + LIST + add(13, 3, 710)
             + add(13, 3, 110) + remove(13, 3, 710) + LIST
             + remove(13, 3, 710))
@@ -414,7 +414,7 @@ def misplaced_books():
 
 
 def competing_books():
-    """One record that earns several refusals; their order decides."""
+    """One record that earns several refusals; 01's order decides."""
     bad_text = b"bad\x1fwording"
     full = rules_with_condition(32)
     bare = rules_with_condition(31) + rule(32)

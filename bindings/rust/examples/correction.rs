@@ -1,4 +1,4 @@
-//! A 1 read as 7, and the clerk's correction: book A of docs/BOOK.md.
+//! A 1 read as 7, and the clerk's correction: document 01's book A.
 
 use malletfrond::{Reading, Room};
 

@@ -1,14 +1,9 @@
 //! Safe calls over the static library of Malletfrond. `include/malletfrond.h` says what each takes, answers and refuses; the names are the same.
 //!
-//! A [`Room`] lends its memory to every call. It is opened by [`Room::open`], or taken from bytes that [`calls::check`] finds sound, and nothing but the library
-//! writes to it, so refusal 10 is never given; [`calls`] has the same calls over any bytes. A [`book::Book`] is a rule book as values.
-
-pub mod book;
-mod refusal;
+//! A [`Room`] lends its memory to every call. It can be opened only by [`Room::open`], and nothing but the library writes to it, so refusal 10 is never
+//! given; [`calls`] has the same calls over any bytes.
 
 use std::fmt;
-
-pub use refusal::Refusal;
 
 /// The most readings, and the most tokens, that a room may be opened for.
 pub const MOST_READINGS: u64 = 256;
@@ -25,19 +20,27 @@ pub const fn room_size(tokens: u64) -> usize {
     18288 + 2 * tokens as usize
 }
 
+/// A refusal: its number, and for an opening or a wording the place in the book.
+#[derive(Clone, Copy, Debug, PartialEq, Eq)]
+pub struct Refusal {
+    pub number: u64,
+    pub place: u64,
+}
+
+impl fmt::Display for Refusal {
+    fn fmt(&self, f: &mut fmt::Formatter<'_>) -> fmt::Result {
+        write!(f, "refused, {} at {}", self.number, self.place)
+    }
+}
+
+impl std::error::Error for Refusal {}
+
 /// A meter reading.
 #[derive(Clone, Copy, Debug, PartialEq, Eq, PartialOrd, Ord, Hash)]
 pub struct Reading {
     pub line: u32,
     pub column: u32,
     pub value: u32,
-}
-
-/// As in a line: line/column/value.
-impl fmt::Display for Reading {
-    fn fmt(&self, f: &mut fmt::Formatter<'_>) -> fmt::Result {
-        write!(f, "{}/{}/{}", self.line, self.column, self.value)
-    }
 }
 
 /// Readings present, tokens held, and the complete matches that appeared, vanished or are there.
@@ -48,92 +51,75 @@ pub struct Counts {
     pub complete: u64,
 }
 
-/// The records of a book before its end, and how many of them are rules.
-#[derive(Clone, Copy, Debug, PartialEq, Eq)]
-pub struct Rows {
-    pub records: u64,
-    pub rules: u64,
-}
-
 /// The calls over any bytes.
 pub mod calls {
-    use super::{Counts, Reading, Refusal, Rows, WORDING};
+    use super::{Counts, Reading, Refusal, WORDING};
 
     mod c {
         extern "C" {
-            pub fn malletfrond_open(room: *mut u8, room_length: usize, book: *const u8, book_length: usize, e: u64, t: u64, readings: *mut u64, tokens: *mut u64, complete: *mut u64, place: *mut u64) -> u64;
-            pub fn malletfrond_add(room: *mut u8, room_length: usize, line: u32, column: u32, value: u32, readings: *mut u64, tokens: *mut u64, appeared: *mut u64, place: *mut u64) -> u64;
-            pub fn malletfrond_remove(room: *mut u8, room_length: usize, line: u32, column: u32, value: u32, readings: *mut u64, tokens: *mut u64, vanished: *mut u64, place: *mut u64) -> u64;
-            pub fn malletfrond_counts(room: *const u8, room_length: usize, readings: *mut u64, tokens: *mut u64, complete: *mut u64, place: *mut u64) -> u64;
-            pub fn malletfrond_line(room: *const u8, room_length: usize, k: u64, buffer: *mut u8, buffer_length: usize, length: *mut u64, place: *mut u64) -> u64;
-            pub fn malletfrond_wording(book: *const u8, book_length: usize, number: u64, offset: *mut u64, place: *mut u64) -> u64;
+            pub fn malletfrond_open(room: *mut u8, room_length: usize, book: *const u8, book_length: usize, e: u64, t: u64, place: *mut u64) -> u64;
+            pub fn malletfrond_add(room: *mut u8, room_length: usize, line: u32, column: u32, value: u32, readings: *mut u64, tokens: *mut u64, appeared: *mut u64) -> u64;
+            pub fn malletfrond_remove(room: *mut u8, room_length: usize, line: u32, column: u32, value: u32, readings: *mut u64, tokens: *mut u64, vanished: *mut u64) -> u64;
+            pub fn malletfrond_counts(room: *const u8, room_length: usize, readings: *mut u64, tokens: *mut u64, complete: *mut u64) -> u64;
+            pub fn malletfrond_line(room: *const u8, room_length: usize, k: u64, buffer: *mut u8, buffer_length: usize, length: *mut u64) -> u64;
+            pub fn malletfrond_wording(book: *const u8, book_length: usize, number: u64, place: *mut u64) -> u64;
             pub fn malletfrond_check(room: *const u8, room_length: usize) -> bool;
-            pub fn malletfrond_write_book(rows: *const i64, rows_length: usize, wordings: *const u8, wordings_length: usize, buffer: *mut u8, buffer_length: usize, length: *mut u64, place: *mut u64) -> u64;
-            pub fn malletfrond_read_rows(book: *const u8, book_length: usize, rows: *mut i64, rows_length: usize, wordings: *mut u8, wordings_length: usize, records: *mut u64, rules: *mut u64, place: *mut u64) -> u64;
         }
-    }
-
-    fn refusal(number: u64, place: u64) -> Refusal {
-        Refusal::of(number, place).expect("the archive and this crate are of one version")
     }
 
     fn accepted<T>(number: u64, place: u64, result: T) -> Result<T, Refusal> {
         if number == 0 {
             Ok(result)
         } else {
-            Err(refusal(number, place))
+            Err(Refusal { number, place })
         }
     }
 
     // In each call below the slices and numbers are borrowed for the call alone, and Rust's rules keep them apart: that is all that the library asks.
 
-    /// Opens a room for a book: 8, 9, then the book's refusals 1 to 7. Accepted, the counts are zeros.
-    pub fn open(room: &mut [u8], book: &[u8], most_readings: u64, most_tokens: u64) -> Result<Counts, Refusal> {
-        let (mut readings, mut tokens, mut complete, mut place) = (0, 0, 0, 0);
-        let number = unsafe {
-            c::malletfrond_open(
-                room.as_mut_ptr(), room.len(), book.as_ptr(), book.len(), most_readings, most_tokens, &mut readings, &mut tokens, &mut complete, &mut place,
-            )
-        };
-        accepted(number, place, Counts { readings, tokens, complete })
+    /// Opens a room for a book: 8, 9, then the book's refusals 1 to 7.
+    pub fn open(room: &mut [u8], book: &[u8], readings: u64, tokens: u64) -> Result<(), Refusal> {
+        let mut place = 0;
+        let number = unsafe { c::malletfrond_open(room.as_mut_ptr(), room.len(), book.as_ptr(), book.len(), readings, tokens, &mut place) };
+        accepted(number, place, ())
     }
 
     /// Adds a reading: 10, 11, 13, 14.
     pub fn add(room: &mut [u8], r: Reading) -> Result<Counts, Refusal> {
-        let (mut readings, mut tokens, mut complete, mut place) = (0, 0, 0, 0);
-        let number = unsafe { c::malletfrond_add(room.as_mut_ptr(), room.len(), r.line, r.column, r.value, &mut readings, &mut tokens, &mut complete, &mut place) };
-        accepted(number, place, Counts { readings, tokens, complete })
+        let (mut readings, mut tokens, mut complete) = (0, 0, 0);
+        let number = unsafe { c::malletfrond_add(room.as_mut_ptr(), room.len(), r.line, r.column, r.value, &mut readings, &mut tokens, &mut complete) };
+        accepted(number, 0, Counts { readings, tokens, complete })
     }
 
     /// Removes a reading: 10, 12.
     pub fn remove(room: &mut [u8], r: Reading) -> Result<Counts, Refusal> {
-        let (mut readings, mut tokens, mut complete, mut place) = (0, 0, 0, 0);
-        let number = unsafe { c::malletfrond_remove(room.as_mut_ptr(), room.len(), r.line, r.column, r.value, &mut readings, &mut tokens, &mut complete, &mut place) };
-        accepted(number, place, Counts { readings, tokens, complete })
+        let (mut readings, mut tokens, mut complete) = (0, 0, 0);
+        let number = unsafe { c::malletfrond_remove(room.as_mut_ptr(), room.len(), r.line, r.column, r.value, &mut readings, &mut tokens, &mut complete) };
+        accepted(number, 0, Counts { readings, tokens, complete })
     }
 
     /// Readings present, tokens, complete matches: 10.
     pub fn counts(room: &[u8]) -> Result<Counts, Refusal> {
-        let (mut readings, mut tokens, mut complete, mut place) = (0, 0, 0, 0);
-        let number = unsafe { c::malletfrond_counts(room.as_ptr(), room.len(), &mut readings, &mut tokens, &mut complete, &mut place) };
-        accepted(number, place, Counts { readings, tokens, complete })
+        let (mut readings, mut tokens, mut complete) = (0, 0, 0);
+        let number = unsafe { c::malletfrond_counts(room.as_ptr(), room.len(), &mut readings, &mut tokens, &mut complete) };
+        accepted(number, 0, Counts { readings, tokens, complete })
     }
 
     /// Complaint k as a line with its newline: 10, 16, 15.
     pub fn line<'a>(room: &[u8], k: u64, buffer: &'a mut [u8]) -> Result<&'a [u8], Refusal> {
-        let (mut length, mut place) = (0, 0);
-        let number = unsafe { c::malletfrond_line(room.as_ptr(), room.len(), k, buffer.as_mut_ptr(), buffer.len(), &mut length, &mut place) };
-        accepted(number, place, &buffer[..length as usize])
+        let mut length = 0;
+        let number = unsafe { c::malletfrond_line(room.as_ptr(), room.len(), k, buffer.as_mut_ptr(), buffer.len(), &mut length) };
+        accepted(number, 0, &buffer[..length as usize])
     }
 
     /// The wording of a rule, as the part of the book that it is: the book's refusals 1 to 7, then 17.
     pub fn wording(book: &[u8], rule: u64) -> Result<&[u8], Refusal> {
-        let (mut offset, mut place) = (0, 0);
-        let number = unsafe { c::malletfrond_wording(book.as_ptr(), book.len(), rule, &mut offset, &mut place) };
+        let mut place = 0;
+        let number = unsafe { c::malletfrond_wording(book.as_ptr(), book.len(), rule, &mut place) };
         if number == 0 {
-            Ok(&book[offset as usize..offset as usize + WORDING])
+            Ok(&book[place as usize..place as usize + WORDING])
         } else {
-            Err(refusal(number, place))
+            Err(Refusal { number, place })
         }
     }
 
@@ -141,43 +127,7 @@ pub mod calls {
     pub fn check(room: &[u8]) -> bool {
         unsafe { c::malletfrond_check(room.as_ptr(), room.len()) }
     }
-
-    /// The book of rows and wordings, at the front of the buffer: 1, 3 to 7 as it would be refused, then 19.
-    pub fn write_book<'a>(rows: &[i64], wordings: &[u8], buffer: &'a mut [u8]) -> Result<&'a [u8], Refusal> {
-        let (mut length, mut place) = (0, 0);
-        let number = unsafe { c::malletfrond_write_book(rows.as_ptr(), rows.len(), wordings.as_ptr(), wordings.len(), buffer.as_mut_ptr(), buffer.len(), &mut length, &mut place) };
-        accepted(number, place, &buffer[..length as usize])
-    }
-
-    /// The rows and wordings of a book: its refusals 1 to 7, then 19.
-    pub fn read_rows(book: &[u8], rows: &mut [i64], wordings: &mut [u8]) -> Result<Rows, Refusal> {
-        let (mut records, mut rules, mut place) = (0, 0, 0);
-        let number = unsafe {
-            c::malletfrond_read_rows(book.as_ptr(), book.len(), rows.as_mut_ptr(), rows.len(), wordings.as_mut_ptr(), wordings.len(), &mut records, &mut rules, &mut place)
-        };
-        accepted(number, place, Rows { records, rules })
-    }
 }
-
-/// Why bytes are no sound room.
-#[derive(Clone, Copy, Debug, PartialEq, Eq)]
-pub enum NoRoom {
-    /// What refusal 10 means: a limit, count or table is out of range.
-    Broken,
-    /// The bytes do not hold exactly what their readings and stored book define.
-    Unsound,
-}
-
-impl fmt::Display for NoRoom {
-    fn fmt(&self, f: &mut fmt::Formatter<'_>) -> fmt::Result {
-        f.write_str(match self {
-            NoRoom::Broken => "These bytes are no sheet, or it has been damaged.",
-            NoRoom::Unsound => "What this sheet holds is not what its readings and rule book say; open it anew.",
-        })
-    }
-}
-
-impl std::error::Error for NoRoom {}
 
 /// A room that was opened, with the memory that it owns.
 #[derive(Clone)]
@@ -191,17 +141,6 @@ impl Room {
         let mut bytes = vec![0; room_size(tokens.min(MOST_TOKENS))].into_boxed_slice();
         calls::open(&mut bytes, book, readings, tokens)?;
         Ok(Room { bytes })
-    }
-
-    /// The room whose bytes these are, as [`Room::bytes`] gave them: [`calls::check`] decides.
-    pub fn from_bytes(bytes: &[u8]) -> Result<Room, NoRoom> {
-        if calls::check(bytes) {
-            Ok(Room { bytes: bytes.into() })
-        } else if calls::counts(bytes).is_err() {
-            Err(NoRoom::Broken)
-        } else {
-            Err(NoRoom::Unsound)
-        }
     }
 
     pub fn add(&mut self, r: Reading) -> Result<Counts, Refusal> {
@@ -233,7 +172,7 @@ impl Room {
         calls::check(&self.bytes)
     }
 
-    /// The bytes, for whoever wants to store them; [`Room::from_bytes`] takes them back.
+    /// The bytes, for whoever wants to store them.
     pub fn bytes(&self) -> &[u8] {
         &self.bytes
     }

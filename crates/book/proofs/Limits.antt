@@ -1,4 +1,4 @@
--- The rules of an accepted book keep to the limits of docs/BOOK.md, because each record that is taken keeps to them.
+-- The rules of an accepted book keep to document 01's limits, because each record that is taken keeps to them.
 -- Assumes nothing.
 use Prim.Native.Nat.{ℕ, ◌+◌, ◌*◌, ◌-◌, ◌≤◌, ◌<◌}
 use mathlib.Core.Path.{◌≡◌, refl}

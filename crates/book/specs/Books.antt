@@ -1,4 +1,4 @@
--- Rule books byte by byte: books A and B of docs/BOOK.md with their rules, and books that are refused. Assumes nothing: these are definitions.
+-- Rule books byte by byte: books A and B of document 01 with their rules, and books that are refused. Assumes nothing: these are definitions.
 use Rattle.std.specs.Prelude.{ℕ, List, [], ◌∷◌, ◌++◌, pos, replicate}
 use Rattle.book.specs.declared.record.Test.TheVariants.{Constant, Gap}
 use Rattle.book.specs.Rules.{Rule}

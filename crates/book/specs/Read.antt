@@ -62,7 +62,7 @@ walk (suc most) book at rules =
 unfoldable pub read_book : List ℕ → BookRead
 read_book book = cond (ltb 8192 (length book)) (refused 1 0) (walk (length book + 1) book 0 [])
 
--- the answer: the refusal's number and place, or what an accepted book gives
+-- the answer: 01's numbers for each case, and what an accepted book gives
 unfoldable pub answer_of : BookRead → a.BookAnswer
 answer_of (accepted rules) = Accepted (length rules) (condition_count rules)
 answer_of (refused number place) = Refused number place

@@ -1,11 +1,11 @@
 -- The wording by rule number: "the book, then 17". Assumes nothing: these are definitions.
-use Rattle.std.specs.Prelude.{◌≡◌, ℕ, ◌+◌, List, [], ◌∷◌, cond, eqb}
+use Rattle.std.specs.Prelude.{ℕ, ◌+◌, List, [], ◌∷◌, cond, eqb}
 use Rattle.numbers.specs.BigEndian.{uint}
 use Rattle.book.specs.declared.rules.WordingPlace.{WordingPlace}
 use Rattle.book.specs.declared.rules.WordingPlace.TheVariants.{At, Refused}
 use Rattle.book.specs.declared.rules.Refusal.{Refusal}
 use Rattle.book.specs.Rules.{Rule, conditions_size}
-use Rattle.book.specs.Read.{BookRead, accepted, refused, read_book}
+use Rattle.book.specs.Read.{BookRead, accepted, refused}
 
 -- the wording of the rule of that number; no bytes where there is none
 unfoldable pub wording_in : List Rule → ℕ → List ℕ
@@ -26,17 +26,6 @@ wording_place_in at (r ∷ rules) n =
 unfoldable pub wording_place : BookRead → ℕ → WordingPlace
 wording_place (accepted rules) n = wording_place_in 0 rules n
 wording_place (refused number place) n = Refused number place
-
--- how far into the book it stands; the front for the empty part
-unfoldable pub wording_offset : WordingPlace → ℕ
-wording_offset (At offset) = offset
-wording_offset (Refused number place) = 0
-
--- "The wording comes back as that part of the lent book": its bytes, and where it begins. Of two rules with the same wording each has a part of its own. `lent` is where
--- in memory the book begins, a block and an offset into it, and `part` where what was returned does
-pub record Worded (book : List ℕ) (lent : ℕ × ℕ) (number : ℕ) (bytes : List ℕ) (part : ℕ × ℕ) : Type 0 where
-  pub answered : bytes ≡ rule_wording (read_book book) number
-  pub begins : part ≡ (lent.0, wording_offset (wording_place (read_book book) number) + lent.1)
 
 -- the same, sought among the places of rule records: what the code's loop answers
 unfoldable pub sought : List ℕ → List ℕ → ℕ → WordingPlace

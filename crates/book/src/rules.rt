@@ -2,7 +2,7 @@
 ghost use Rattle.std.specs.Prelude.{◌≡◌, ℕ, ◌+◌, ◌≤◌, ◌<◌, length, take, get_or};
 ghost use Rattle.book.specs.Read.{read_book};
 ghost use Rattle.book.specs.Tests.{tests_at, eight};
-ghost use Rattle.book.specs.Wording.{Worded, wording_place, refusal_in, sought};
+ghost use Rattle.book.specs.Wording.{rule_wording, wording_place, refusal_in, sought};
 
 use crate::reader::{BookAnswer, find_places};
 use crate::record::{Record, Test, record_at, test_size};
@@ -61,9 +61,9 @@ pub fn wording_place(book: &[u8], number: u64) -> WordingPlace
     }
 }
 
-// The 24 bytes of wording of the rule of that number, as the part of the book that they are, or an empty part.
+// The 24 bytes of wording of the rule of that number, or an empty part.
 pub fn wording<'a>(book: &'a [u8], number: u64) -> &'a [u8]
-    ensures { Worded book.now book.entry.ref_ptr number result.now result.ref_ptr }
+    ensures { result.now ≡ rule_wording (read_book book.now) number }
 {
     let place = wording_place(book, number);
     let WordingPlace::At(from) = place else {

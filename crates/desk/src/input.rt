@@ -10,17 +10,7 @@ pub fn read_rest(fd: i32, space: &mut [u8], have: usize) -> usize
     have + more
 }
 
-// Reads behind the first `have` bytes what is there of the file, and waits only where nothing is; how many there are then, no more than before at the file's end.
-fn read_more(fd: i32, space: &mut [u8], have: usize) -> usize
-    requires { have ≤ length space.old }
-    ensures { result ≤ length space.old }
-{
-    let got = libc::read(fd, &mut space[have..]);
-    let more = io::count(got, &space[have..]);
-    have + more
-}
-
-// Moves the bytes from `at` up to `have` to the front, and reads more behind them; how many there are then.
+// Moves the bytes from `at` up to `have` to the front, and fills up behind them; how many there are then.
 pub fn refill(fd: i32, space: &mut [u8], at: usize, have: usize) -> usize
     requires at_le_have { at ≤ have }
     requires have_in_bounds { have ≤ length space.old }
@@ -32,5 +22,5 @@ pub fn refill(fd: i32, space: &mut [u8], at: usize, have: usize) -> usize
         space[n] = space[at + n];
         n += 1;
     }
-    read_more(fd, space, left)
+    read_rest(fd, space, left)
 }

@@ -5,10 +5,9 @@ mod steps;
 
 ghost use Rattle.std.specs.Prelude.{◌≤◌, length};
 
-use book::refusal::FILE_NOT_OPENED;
 use input::read_rest;
 use malletfrond::OpenAnswer;
-use out::{SPACE, flush, nothing, put, put_number};
+use out::{SPACE, flush, put, put_number};
 use steps::{CHUNK, run};
 
 // One byte more than the longest book, so that a longer file is refused as a book that is too long.
@@ -24,11 +23,11 @@ const TOKENS: u64 = 2048;
 // A refusal with its place is all that is printed.
 fn refuse(number: u8, place: usize) {
     let mut out = [0u8; SPACE];
-    let waiting = put(&mut out, nothing(), b"!");
-    let waiting = put_number(&mut out, waiting, number as u64);
-    let waiting = put_number(&mut out, waiting, place as u64);
-    let waiting = put(&mut out, waiting, b"\n");
-    flush(&out, waiting);
+    let used = put(&mut out, 0, b"!");
+    let used = put_number(&mut out, used, number as u64);
+    let used = put_number(&mut out, used, place as u64);
+    let used = put(&mut out, used, b"\n");
+    flush(&out, used);
 }
 
 // Opens a room for the book and goes through the steps, the first `have` bytes of which are read.
@@ -56,11 +55,11 @@ fn main() {
     let got = libc::read(rules, &mut space);
     let got_steps = libc::read(steps, &mut chunk);
     if got < 0 {
-        refuse(FILE_NOT_OPENED, 0);
+        refuse(18, 0);
         return;
     }
     if got_steps < 0 {
-        refuse(FILE_NOT_OPENED, 0);
+        refuse(18, 0);
         return;
     }
     let first = io::count(got, &space);

@@ -1,63 +1,30 @@
-// Output, gathered in an array of SPACE bytes, and written out when that is full and before the program waits for more steps. The first write that fails is the last: what is printed is the
-// front of what was to be printed, and nothing stands behind a hole.
+// Output, gathered in an array of SPACE bytes of which the first `used` are waiting, and written out when it is full.
 
 pub const SPACE: usize = 4096;
 
-// How many bytes of the array wait; and whether a write has failed.
-#[derive(Drop)]
-pub struct Waiting {
-    pub used: usize,
-    pub lost: bool,
-}
-
-// As a run begins.
-pub fn nothing() -> Waiting {
-    Waiting {
-        used: 0,
-        lost: false,
-    }
-}
-
-// Writes out what waits.
-pub fn flush(out: &[u8; SPACE], waiting: Waiting) -> Waiting {
+// Writes out the first `used` bytes.
+pub fn flush(out: &[u8; SPACE], used: usize) {
     let text = &out[..];
-    let used = waiting.used;
-    if waiting.lost || text.len() < used {
-        return Waiting {
-            used: 0,
-            lost: true,
-        };
+    if text.len() < used {
+        return;
     }
-    let written = io::write_all(libc::STDOUT_FILENO, &text[0..used]);
-    Waiting {
-        used: 0,
-        lost: !written,
-    }
+    io::write_all(libc::STDOUT_FILENO, &text[0..used]);
 }
 
-// One byte more; what waits then.
-fn put_byte(out: &mut [u8; SPACE], waiting: Waiting, byte: u8) -> Waiting {
-    let mut next = waiting;
-    if SPACE <= waiting.used {
-        next = flush(out, waiting);
+// One byte more; how many are waiting then.
+fn put_byte(out: &mut [u8; SPACE], used: usize, byte: u8) -> usize {
+    if SPACE <= used {
+        flush(out, SPACE);
+        out[0] = byte;
+        return 1;
     }
-    let at = next.used;
-    if next.lost {
-        return next;
-    }
-    if SPACE <= at {
-        return next;
-    }
-    out[at] = byte;
-    Waiting {
-        used: at + 1,
-        lost: false,
-    }
+    out[used] = byte;
+    used + 1
 }
 
-// Each byte of `text`; what waits then.
-pub fn put(out: &mut [u8; SPACE], waiting: Waiting, text: &[u8]) -> Waiting {
-    let mut at = waiting;
+// Each byte of `text`; how many are waiting then.
+pub fn put(out: &mut [u8; SPACE], used: usize, text: &[u8]) -> usize {
+    let mut at = used;
     let mut i: usize = 0;
     while i < text.len() {
         at = put_byte(out, at, text[i]);
@@ -66,10 +33,10 @@ pub fn put(out: &mut [u8; SPACE], waiting: Waiting, text: &[u8]) -> Waiting {
     at
 }
 
-// A space and n in decimal; what waits then.
-pub fn put_number(out: &mut [u8; SPACE], waiting: Waiting, n: u64) -> Waiting {
+// A space and n in decimal; how many bytes are waiting then.
+pub fn put_number(out: &mut [u8; SPACE], used: usize, n: u64) -> usize {
     let mut digits = [0u8; 20];
     let count = io::decimal(n, &mut digits);
-    let spaced = put(out, waiting, b" ");
-    put(out, spaced, &digits[..count])
+    let used = put(out, used, b" ");
+    put(out, used, &digits[..count])
 }

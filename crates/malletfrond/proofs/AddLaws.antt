@@ -5,17 +5,16 @@ use mathlib.Core.Bool.{Bool, true, false, false≢true}
 use mathlib.Core.Logic.{⊎_elim}
 use mathlib.Core.List.{List, Memᴰ}
 use native.Mathlib.Omega.{arith}
-use borrow.Author.Tests.{le-leb, lt-leb, lt-ltb}
+use borrow.Author.Tests.{le-leb, lt-leb, lt-ltb, le-ltb}
 use lib.ListN.{length}
 use Rattle.reading.specs.declared.Reading.{Reading}
 use Rattle.reading.specs.Reading.{is_less}
 use Rattle.matching.specs.Complaints.{book_count, complaints}
 use Rattle.matching.specs.Order.{inserted}
-use Rattle.matching.specs.Step.{State, present, more, refuse, not_among, taken, added, add, stepped}
+use Rattle.matching.specs.Step.{State, accepted, present, more, refuse, with_readings, not_among, added, add, stepped}
 use Rattle.matching.proofs.Laws.Members.{mem_same}
 use Rattle.matching.proofs.Laws.Orders.{length_inserted}
 use Rattle.matching.proofs.Laws.ReadingOrder.{is_same-exact}
-use Rattle.matching.proofs.Laws.Steps.{accepting, taken-fits}
 use Rattle.room.specs.Broken.{broken}
 use Rattle.room.specs.Layout.{head_number, limit, parts, orderPart, slotsPart}
 use Rattle.room.specs.Held.{held, complete_of}
@@ -25,7 +24,7 @@ use Rattle.weave.proofs.Grown.{le_or_lt}
 use Rattle.step.specs.Worked.{AddedAt}
 use Rattle.malletfrond.specs.declared.StepAnswer.TheVariants as a
 use Rattle.sound.specs.Sound.{Sound, state_of}
-use Rattle.malletfrond.specs.Answers.{changed, step_answer, refusals}
+use Rattle.malletfrond.specs.Answers.{refusals}
 use Rattle.malletfrond.specs.Promise.{Steps}
 use Rattle.sound.proofs.Adding.{adding-over, adding-next}
 use Rattle.sound.proofs.AnswerLaws.{appeared}
@@ -50,12 +49,16 @@ module _ (s : State) (w : Reading) where
 
     module _ (free : length s.readings < s.E) where
       added-14 : s.T < book_count s.book (more s w) → stepped s (add w) ≡ refuse s 14
-      unfolding stepped added taken
+      unfolding stepped added
       added-14 h = rw (new, lt-leb s.E (length s.readings) free, lt-ltb s.T (book_count s.book (more s w)) h)
 
-      added-yes : book_count s.book (more s w) ≤ s.T → stepped s (add w) ≡ accepting s (more s w)
+      added-yes : book_count s.book (more s w) ≤ s.T → stepped s (add w)
+          ≡ record {
+            answer = accepted (length (more s w)) (book_count s.book (more s w)) (length (not_among (complaints s.book s.readings) (complaints s.book (more s w))));
+            next = with_readings s (more s w);
+          }
       unfolding stepped added
-      added-yes h = rw (new, lt-leb s.E (length s.readings) free) (taken-fits s (more s w) h)
+      added-yes h = rw (new, lt-leb s.E (length s.readings) free, le-ltb s.T (book_count s.book (more s w)) h)
 
 -- ---- in a room that is not broken
 
@@ -71,12 +74,12 @@ module _ (room : List ℕ) (w : Reading) {p : ℕ} (place : Sound room → p ≡
   pub is-present : (s : Sound room) (b : Bool) → stands room w p ≡ b → present (state_of room s) w ≡ b
   is-present s b e = sym (stands-present room s w) ∙ rw (place s) at e
 
-  pub adds-present : stands room w p ≡ true → Steps room (add w) (a.Refused 11 0) room
+  pub adds-present : stands room w p ≡ true → Steps room (add w) (a.Refused 11) room
   unfolding refusals
   adds-present e = steps-refused room (add w) 11 whole (mathlib.Core.List.Memᴰ.head refl) (λ s. added-11 (state_of room s) w (is-present s true e))
 
   module _ (new : stands room w p ≡ false) where
-    pub adds-full : head_number room 0 ≤ head_number room 2 → Steps room (add w) (a.Refused 13 0) room
+    pub adds-full : head_number room 0 ≤ head_number room 2 → Steps room (add w) (a.Refused 13) room
     unfolding refusals held
     adds-full h =
         steps-refused room (add w) 13 whole (mathlib.Core.List.Memᴰ.tail (mathlib.Core.List.Memᴰ.head refl))
@@ -106,7 +109,7 @@ module _ (room : List ℕ) (w : Reading) {p : ℕ} (place : Sound room → p ≡
             (λ (over : limit room < book_count s.rules with_it). absurd (omega (arith, adding-over room s w (is-present s false new) free (place s) at over)))
             (le_or_lt (book_count s.rules with_it) (limit room))
 
-      pub adds-over : limit room < tokens → Steps room (add w) (a.Refused 14 0) room'
+      pub adds-over : limit room < tokens → Steps room (add w) (a.Refused 14) room'
       unfolding refusals held
       adds-over h =
           rw (at.full h)
@@ -114,7 +117,7 @@ module _ (room : List ℕ) (w : Reading) {p : ℕ} (place : Sound room → p ≡
           (λ s. added-14 (state_of room s) w (is-present s false new) (free-is s) (over-is s h)))
 
       pub adds-accepted : tokens ≤ limit room → Steps room (add w) (a.Accepted (head_number room 2 + 1) tokens (complete - complete_of room)) room'
-      unfolding held step_answer changed
+      unfolding held
       adds-accepted h =
           steps-accepted room room' (add w) (head_number room 2 + 1) tokens (complete - complete_of room) at.aside _ _ complete whole (at.written h) at.long
           (λ s.
@@ -124,6 +127,6 @@ module _ (room : List ℕ) (w : Reading) {p : ℕ} (place : Sound room → p ≡
           let absent : Memᴰ w R → ⊥ = λ m. false≢true (sym (is-present s false new) ∙ (mem_same is_same-exact w R).1 m) in
           let readings : length (with_it s) ≡ head_number room 2 + 1 = omega (arith, length_inserted is_less w R, present_many room whole) in
           let count : book_count s.rules (with_it s) ≡ tokens = sym (sym at.tokens_are ∙ next-tokens room room' s _ _ _ (with_it s) complete n) in
-          let appears : length (not_among (complaints s.rules R) (complaints s.rules (with_it s))) ≡ complete - complete_of room =
+          let changed : length (not_among (complaints s.rules R) (complaints s.rules (with_it s))) ≡ complete - complete_of room =
           appeared s.rules (sound-kept room s) w R absent ∙ rw (sym (next-complete room room' s _ _ _ (with_it s) complete n), sound-complete room s) in
-          rw yes (rw (readings, count, appears), n))
+          rw yes (rw (readings, count, changed), n))

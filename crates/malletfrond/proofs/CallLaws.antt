@@ -1,11 +1,9 @@
 -- Openings and counts: two results that a promise allows are the same, and the counts are those of the header. Assumes nothing.
-use Prim.Native.Nat.{ℕ, ◌≤◌}
+use Prim.Native.Nat.{ℕ}
 use mathlib.Core.Path.{◌≡◌, refl, sym, ap, ◌∙◌}
 use mathlib.Core.Bool.{Bool, true, false, cond, false≢true}
-use mathlib.Core.Logic.{◌⊎◌, inl, inr}
 use mathlib.Core.List.{List}
 use native.Mathlib.Omega.{arith}
-use borrow.Author.Tests.{le-ltb, ltb-false}
 use lib.Dec.{ltb}
 use lib.ListN.{length}
 use Rattle.numbers.specs.BigEndian.{uint}
@@ -22,7 +20,6 @@ use Rattle.malletfrond.specs.declared.CountsAnswer.TheVariants as c
 use Rattle.malletfrond.specs.Answers.{limits_fit, opened_by, open_answer, counts_answer}
 use Rattle.room.specs.Held.{complete_of}
 use Rattle.malletfrond.specs.Promise.{Opens, Counts}
-use Rattle.malletfrond.specs.Demand.{Opening}
 use Rattle.sound.proofs.SoundLaws.{length-held-readings, sound-tokens, sound-complete}
 
 -- ---- openings
@@ -31,49 +28,18 @@ use Rattle.sound.proofs.SoundLaws.{length-held-readings, sound-tokens, sound-com
 pub opened_not_refused : (a : OpenAnswer) (number place : ℕ) → a ≡ (o.Opened 0 0 0) → a ≡ o.Refused number place → ⊥
 opened_not_refused a number place e f = let z : ◌≡◌ {A = ℕ} 0 1 = cc in omega arith
 
--- only an accepted book opens a room, with limits in range and a room that is long enough
-opened-parts : (fit short : Bool) (b : BookRead) → o.Opened 0 0 0 ≡ cond fit (cond short (o.Refused 9 0) (opened_by b)) (o.Refused 8 0)
-    → (fit ≡ true) × (short ≡ false) × ((rules : List Rule) × (b ≡ accepted rules))
+-- only an accepted book opens a room
+opened-reads : (fit short : Bool) (b : BookRead) → (o.Opened 0 0 0) ≡ cond fit (cond short (o.Refused 9 0) (opened_by b)) (o.Refused 8 0) → (rules : List Rule) × (b ≡ accepted rules)
 unfolding opened_by
-opened-parts true true b e = absurd (opened_not_refused (o.Opened 0 0 0) 9 0 refl e)
-opened-parts true false (accepted rules) e = (refl, refl, (rules, refl))
-opened-parts true false (refused number place) e = absurd (opened_not_refused (o.Opened 0 0 0) number place refl e)
-opened-parts false short b e = absurd (opened_not_refused (o.Opened 0 0 0) 8 0 refl e)
-
--- an opening is accepted with zeros, or refused
-open_told_lem : (fit short : Bool) (b : BookRead)
-    → (cond fit (cond short (o.Refused 9 0) (opened_by b)) (o.Refused 8 0) ≡ o.Opened 0 0 0)
-    ⊎ ((number : ℕ) × (place : ℕ) × (cond fit (cond short (o.Refused 9 0) (opened_by b)) (o.Refused 8 0) ≡ o.Refused number place))
-unfolding opened_by
-open_told_lem true true b = inr (9, 0, refl)
-open_told_lem true false (accepted rules) = inl refl
-open_told_lem true false (refused number place) = inr (number, place, refl)
-open_told_lem false short b = inr (8, 0, refl)
-
-pub open_either : (long : ℕ) (book : List ℕ) (E T : ℕ)
-    → (open_answer long book E T ≡ o.Opened 0 0 0) ⊎ ((number : ℕ) × (place : ℕ) × (open_answer long book E T ≡ o.Refused number place))
-unfolding open_answer
-open_either long book E T = open_told_lem (limits_fit E T) (ltb long (formula E T)) (read_book book)
-
-pub opened-opening : (room book : List ℕ) (E T : ℕ) → open_answer (length room) book E T ≡ o.Opened 0 0 0 → (rules : List Rule) × Opening room book rules E T
-unfolding open_answer
-opened-opening room book E T e =
-    let h = opened-parts (limits_fit E T) (ltb (length room) (formula E T)) (read_book book) (sym e) in
-    (h.2.0, record { fits = h.0; enough = ltb-false (length room) (formula E T) h.1; reads = h.2.1 })
-
-pub opened-book : (long : ℕ) (book : List ℕ) (E T : ℕ) → open_answer long book E T ≡ o.Opened 0 0 0 → (rules : List Rule) × (read_book book ≡ accepted rules)
-unfolding open_answer
-opened-book long book E T e = (opened-parts (limits_fit E T) (ltb long (formula E T)) (read_book book) (sym e)).2
+opened-reads true true b e = absurd (opened_not_refused (o.Opened 0 0 0) 9 0 refl e)
+opened-reads true false (accepted rules) e = (rules, refl)
+opened-reads true false (refused number place) e = absurd (opened_not_refused (o.Opened 0 0 0) number place refl e)
+opened-reads false short b e = absurd (opened_not_refused (o.Opened 0 0 0) 8 0 refl e)
 
 pub opens-reads : (room book : List ℕ) (E T : ℕ) (answer : OpenAnswer) (room' : List ℕ) → Opens room book E T answer room' → answer ≡ (o.Opened 0 0 0)
     → (rules : List Rule) × (read_book book ≡ accepted rules)
-opens-reads room book E T answer room' p e = opened-book (length room) book E T (sym p.answered ∙ e)
-
--- it is accepted where the limits are in range, the room is long enough and the book is accepted
-pub opened-asked : (long : ℕ) (book : List ℕ) (rules : List Rule) (E T : ℕ) → limits_fit E T ≡ true → formula E T ≤ long → read_book book ≡ accepted rules
-    → open_answer long book E T ≡ o.Opened 0 0 0
-unfolding open_answer opened_by
-opened-asked long book rules E T fits enough reads = rw (fits, le-ltb long (formula E T) enough, reads)
+unfolding open_answer
+opens-reads room book E T answer room' p e = opened-reads (limits_fit E T) (ltb (length room) (formula E T)) (read_book book) (sym e ∙ p.answered)
 
 -- two rooms opened for one book with the same limits hold the same, whatever they held before and however long they are
 pub opened-same : (room other book : List ℕ) (E T : ℕ) (a b : OpenAnswer) (room' other' : List ℕ) → Opens room book E T a room' → Opens other book E T b other'
@@ -92,7 +58,7 @@ opens-same room other book E T a b room' other' long p q =
 -- ---- counts
 
 module _ (room : List ℕ) where
-  pub counts-broken : broken room ≡ true → Counts room (c.Refused 10 0)
+  pub counts-broken : broken room ≡ true → Counts room (c.Refused 10)
   unfolding counts_answer
   counts-broken h = record { answered = simp h; defined = λ s. absurd (false≢true (sym s.whole ∙ h)) }
 

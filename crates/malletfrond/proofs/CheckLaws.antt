@@ -29,7 +29,6 @@ use Rattle.sound.specs.Sound.{Sound, held_of}
 use Rattle.malletfrond.specs.Promise.{Checks}
 use Rattle.sound.proofs.Agree.{Bits, bits_ext, bits-same, bits-agree}
 use Rattle.sound.proofs.Entries.{Entries}
-use Rattle.sound.proofs.PlainHeld.{tokens_plain}
 use Rattle.sound.proofs.RoomBuilt.{room-memories, room-tokens}
 use Rattle.sound.proofs.SoundLaws.{held_ext, held-sound}
 use Rattle.sound.proofs.SoundRoom.{bitIn, testsIn, placed-tests, nodes-long, lasts-long, sound-bits, sound-counts, sound-tokens, sound-ends, sound-completes}
@@ -131,8 +130,7 @@ module _ (room : List ℕ) where
           refl
           (room-memories room os (slotsPart (parts room)) i.rules refl refl (rowsPart (parts room)) refl (indexed-conditions i) checked-bits)
           (room-tokens room os (slotsPart (parts room)) i.rules refl refl (passIn room) i.rule-conditions
-          (b.tokens_are ∙ ap (rules_built os (readIn room) (passIn room) 0) i.rule-conditions) checked-agrees
-          ∙ sym (tokens_plain i.rules (map (readIn room) os)))
+          (b.tokens_are ∙ ap (rules_built os (readIn room) (passIn room) 0) i.rule-conditions) checked-agrees)
 
       pub checked-sound : Sound room
       checked-sound =

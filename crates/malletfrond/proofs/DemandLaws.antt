@@ -2,13 +2,13 @@
 -- a buffer of 230 bytes. Assumes nothing.
 use Prim.Native.Nat.{ℕ, ◌≤◌, ◌<◌}
 use mathlib.Core.Path.{◌≡◌, refl, sym, ap, ap₂, ◌∙◌, subst}
-use mathlib.Core.Bool.{Bool, true, false, not, cond, ◌&&◌, ◌||◌, false≢true, and-eq-true_iff}
-use mathlib.Core.Logic.{◌⊎◌, inl, inr, ⊎_elim}
+use mathlib.Core.Bool.{Bool, true, false, not, ◌&&◌, ◌||◌, false≢true, and-eq-true_iff}
+use mathlib.Core.Logic.{inl}
+use mathlib.Core.List.Memᴰ
 use mathlib.Core.List.{List, [], ◌∷◌, Memᴰ}
 use native.Mathlib.Omega.{arith}
 use lib.ListN.{length, drop}
 use Rattle.book.specs.Rules.{Rule}
-use Rattle.book.specs.Read.{read_book, accepted}
 use Rattle.book.specs.Limits.{All, Kept}
 use Rattle.book.proofs.Limits.{read_kept}
 use Rattle.reading.specs.declared.Reading.{Reading}
@@ -20,43 +20,31 @@ use Rattle.matching.proofs.Laws.Complaints.{mem_complaints, complaints-ascending
 use Rattle.matching.proofs.Laws.Members.{mem_same}
 use Rattle.matching.proofs.Laws.Orders.{mem-inserted, without-inserted}
 use Rattle.matching.proofs.Laws.ReadingOrder.{is_same-exact}
-use Rattle.matching.proofs.Laws.Steps.{opened_settled, readings_unique, taken-fits, added-accepted}
+use Rattle.matching.proofs.Laws.Steps.{opened_settled, readings_unique, added-accepted}
 use Rattle.room.specs.Held.{Held, held}
 use Rattle.row.proofs.OrderLaws.{mem_at}
-use Rattle.malletfrond.specs.declared.OpenAnswer.{OpenAnswer}
-use Rattle.malletfrond.specs.declared.OpenAnswer.TheVariants as o
 use Rattle.malletfrond.specs.declared.StepAnswer.{StepAnswer}
 use Rattle.malletfrond.specs.declared.StepAnswer.TheVariants as a
 use Rattle.malletfrond.specs.declared.LineAnswer.{LineAnswer}
 use Rattle.malletfrond.specs.declared.LineAnswer.TheVariants as l
 use Rattle.sound.specs.Sound.{Sound, held_of, state_of}
-use Rattle.sound.specs.Matches.{Matches}
-use Rattle.malletfrond.specs.Answers.{changed, step_answer, complaint_line, complaint_at}
+use Rattle.malletfrond.specs.Answers.{step_answer, complaint_line, complaint_at}
 use Rattle.malletfrond.specs.Promise.{Steps, Lines}
-use Rattle.malletfrond.specs.Runs.{Call, opening, step, counts, line, check, Reply, Allowed, Event, Run, ended, then}
-use Rattle.malletfrond.specs.Runs.{is_opened, begins, reply_in, state_after, is_accepted, after, replayed}
-use Rattle.malletfrond.specs.Demand.{Opening, line_refused, is_refused, buffer_of, buffer_left, line_length, written, own_bytes, Untouched, Narrow, NarrowCall}
-use Rattle.malletfrond.specs.Demand.{Reached, Anew, Alike, Listed}
-use Rattle.malletfrond.proofs.CallLaws.{open_either, opened-asked, opened-opening}
-use Rattle.malletfrond.proofs.RunLaws.{opens_state, allowed-reply, calls_of, states_after, events_in, Since, run_sound, run_state, run_replies, run-book, run_long}
-use Rattle.malletfrond.proofs.RunLaws.{states_keep, states_settled, events_alike, Present, opened-present, replayed-present}
+use Rattle.malletfrond.specs.Runs.{Call, step, counts, line, check, Reply, Allowed, Event, Run, ended, then, reply_in, state_after, is_accepted, after, replayed}
+use Rattle.malletfrond.specs.Demand.{line_refused, is_refused, buffer_of, buffer_left, line_length, written, Untouched, Narrow, NarrowCall, Reached, Listed}
+use Rattle.malletfrond.proofs.RunLaws.{opens_state, allowed-reply, calls_of, states_after, events_in, run_sound, run_state, run_replies, run-book}
+use Rattle.malletfrond.proofs.RunLaws.{states_keep, states_settled, Present, replayed-present}
 use Rattle.malletfrond.proofs.LineLengths.{line-written, line-none, length-line}
-use Rattle.sound.proofs.MatchesLaws.{held_of-matches}
 use Rattle.sound.proofs.SoundLaws.{sound-same}
 use Rattle.sound.proofs.SoundRoom.{sound-kept}
 use Rattle.malletfrond.proofs.StepLaws.{accepted_not_refused}
 
 -- ---- what no call changes
 
-refused-answer : (answer : StepAnswer) → not (is_accepted answer) ≡ true → (number : ℕ) × (place : ℕ) × (answer ≡ a.Refused number place)
+refused-answer : (answer : StepAnswer) → not (is_accepted answer) ≡ true → (number : ℕ) × (answer ≡ a.Refused number)
 unfolding is_accepted
 refused-answer (a.Accepted readings tokens changed) e = absurd (false≢true e)
-refused-answer (a.Refused number place) e = (number, place, refl)
-
-refused-opening : (answer : OpenAnswer) → not (is_opened answer) ≡ true → (number : ℕ) × (place : ℕ) × (answer ≡ o.Refused number place)
-unfolding is_opened
-refused-opening (o.Opened readings tokens complete) e = absurd (false≢true e)
-refused-opening (o.Refused number place) e = (number, place, refl)
+refused-answer (a.Refused number) e = (number, refl)
 
 -- what a line leaves of the buffer, by its answer
 record Left (answer : LineAnswer) (buffer buffer' : List ℕ) : Type 0 where
@@ -67,23 +55,15 @@ record Left (answer : LineAnswer) (buffer buffer' : List ℕ) : Type 0 where
 line_left : (room : List ℕ) (k : ℕ) (buffer : List ℕ) (answer : LineAnswer) (buffer' : List ℕ) → Lines room k buffer answer buffer' → Left answer buffer buffer'
 unfolding line_refused line_length
 line_left room k buffer (l.Written n) buffer' p = record { refused = λ e. absurd (false≢true e); behind = p.after n refl; short = (p.most n refl).0 }
-line_left room k buffer (l.Refused number place) buffer' p =
-    let same : buffer' ≡ buffer = p.untouched number place refl in
+line_left room k buffer (l.Refused number) buffer' p =
+    let same : buffer' ≡ buffer = p.untouched number refl in
     record { refused = λ e. same; behind = same; short = omega arith }
 
 pub allowed_untouched : (room : List ℕ) (call : Call) (reply : Reply call) (room' : List ℕ) → Allowed room call reply room' → Untouched room call reply room'
-unfolding is_refused buffer_of buffer_left written own_bytes
-allowed_untouched room (opening book E T) reply room' p =
-    record {
-      refused = λ e. let r = refused-opening reply e in (p.untouched r.0 r.1 r.2, refl);
-      past = p.past;
-      behind = refl;
-      short = omega arith;
-      long = (p.long, refl);
-    }
+unfolding is_refused buffer_of buffer_left written
 allowed_untouched room (step x) reply room' p =
     record {
-      refused = λ e. let r = refused-answer reply e in (p.untouched r.0 r.1 r.2, refl);
+      refused = λ e. let r = refused-answer reply e in (p.untouched r.0 r.1, refl);
       past = p.past;
       behind = refl;
       short = omega arith;
@@ -118,11 +98,6 @@ replayed_narrow : (set : Reading → Bool) → ((r : Reading) → set r ≡ true
     → replayed set events r ≡ true → Narrow r
 unfolding replayed
 replayed_narrow set known [] n = known
-replayed_narrow set known ((opening book E T, answer) ∷ events) n = replayed_narrow (cond (is_opened answer) (λ x. false) set) (by (is_opened answer)) events n.1
-  where
-    by : (b : Bool) → (r : Reading) → cond b (λ (x : Reading). false) set r ≡ true → Narrow r
-    by true r e = absurd (false≢true e)
-    by false r e = known r e
 replayed_narrow set known ((step x, answer) ∷ events) n = replayed_narrow (after set x answer) (after_narrow set known x answer n.0) events n.1
 replayed_narrow set known ((counts, answer) ∷ events) n = replayed_narrow set known events n.1
 replayed_narrow set known ((line k buffer, answer) ∷ events) n = replayed_narrow set known events n.1
@@ -131,64 +106,48 @@ replayed_narrow set known ((check, answer) ∷ events) n = replayed_narrow set k
 -- ---- a room that a run has led to
 
 module _ {book : List ℕ} {rules : List Rule} {E T : ℕ} {events : List Event} {last : List ℕ} (r : Reached book rules E T events last) where
-  -- the opening was accepted
-  pub reached-opened : r.answer ≡ o.Opened 0 0 0
-  reached-opened = r.opens.answered ∙ opened-asked (length r.lent) book rules E T r.asked.fits r.asked.enough r.asked.reads
-
   first-sound : Sound r.start
-  first-sound = r.opens.sound reached-opened
+  first-sound = r.opens.sound refl
 
   first-state : state_of r.start first-sound ≡ opened rules E T
-  first-state = opens_state r.lent book rules E T _ r.start r.opens reached-opened r.asked.reads first-sound
+  first-state = opens_state r.lent book rules E T _ r.start r.opens refl r.reads first-sound
 
   pub reached-sound : Sound last
   reached-sound = run_sound r.run first-sound
 
-  abbrev long : ℕ
-  long = length r.start
+  ended-state : state_of last reached-sound ≡ states_after (opened rules E T) (calls_of events)
+  ended-state = run_state r.run first-sound reached-sound ∙ ap (λ (s : State). states_after s (calls_of events)) first-state
 
-  ended-state : state_of last reached-sound ≡ states_after long (opened rules E T) (calls_of events)
-  ended-state = run_state r.run first-sound reached-sound ∙ ap (λ (s : State). states_after long s (calls_of events)) first-state
-
-  ended-readings : (held last).readings ≡ (states_after long (opened rules E T) (calls_of events)).readings
+  ended-readings : (held last).readings ≡ (states_after (opened rules E T) (calls_of events)).readings
   ended-readings = ap (λ (s : State). s.readings) ended-state
-
-  told : events ≡ events_in long (opened rules E T) (calls_of events)
-  told = run_replies r.run first-sound ∙ ap (λ (s : State). events_in long s (calls_of events)) first-state
 
   -- the book, the limits, and the readings that it holds
   pub reached-state : state_of last reached-sound ≡ with_readings (opened rules E T) (held last).readings
-  reached-state =
-      ended-state
-      ∙ states_keep long (opened rules E T) (calls_of events) (subst Since told r.since)
-      ∙ ap (with_readings (opened rules E T)) (sym ended-readings)
+  reached-state = ended-state ∙ states_keep (opened rules E T) (calls_of events) ∙ ap (with_readings (opened rules E T)) (sym ended-readings)
 
   pub reached-holds : held last ≡ held_of book rules E T (held last).readings
   unfolding held_of
   reached-holds =
-      let own : (held last).book ≡ book = run-book r.run r.since first-sound ∙ ap (λ (h : Held). h.book) (r.opens.holds rules reached-opened r.asked.reads) in
+      let own : (held last).book ≡ book = run-book r.run first-sound ∙ ap (λ (h : Held). h.book) (r.opens.holds rules refl r.reads) in
       reached-sound.holds ∙ ap₂ (λ (b : List ℕ) (s : State). held_of b s.book s.E s.T s.readings) own reached-state
 
-  pub reached-matches : Matches rules (held last).readings (held last)
-  reached-matches = rw (sym reached-holds) at (held_of-matches book rules E T (held last).readings reached-sound.ascending)
-
   pub reached-kept : Kept rules
-  reached-kept = read_kept book rules r.asked.reads
+  reached-kept = read_kept book rules r.reads
 
   pub reached-present : Present (with_readings (opened rules E T) (held last).readings) (replayed (λ x. false) events)
   reached-present x =
-      rw (← told, ← ended-readings) at
-      (replayed-present long (opened rules E T) reached-kept (opened_settled rules E T) (λ x. false) (opened-present rules E T) (calls_of events) x)
+      let told : events ≡ events_in (opened rules E T) (calls_of events) = run_replies r.run first-sound ∙ ap (λ (s : State). events_in s (calls_of events)) first-state in
+      let none : Present (opened rules E T) (λ x. false) = λ y. (λ m. absurd (Memᴰ.not-nil m), λ e. absurd (false≢true e)) in
+      rw (← told, ← ended-readings) at (replayed-present (opened rules E T) reached-kept (opened_settled rules E T) (λ x. false) none (calls_of events) x)
 
   pub reached-within : (length (held last).readings ≤ E) × (book_count rules (held last).readings ≤ T)
   reached-within =
-      let h = subst Settled (sym ended-state ∙ reached-state) (states_settled long (opened rules E T) (opened_settled rules E T) (calls_of events)) in
+      let h = subst Settled (sym ended-state ∙ reached-state) (states_settled (opened rules E T) (opened_settled rules E T) (calls_of events)) in
       (h.readings, h.tokens)
 
   -- every next reply is that of the state
-  pub reached-reply : (call : Call) (reply : Reply call) (room : List ℕ) → Allowed last call reply room
-      → reply ≡ reply_in (length last) (with_readings (opened rules E T) (held last).readings) call
-  reached-reply call reply room p = allowed-reply last reached-sound call reply room p ∙ ap (λ (s : State). reply_in (length last) s call) reached-state
+  pub reached-reply : (call : Call) (reply : Reply call) (room : List ℕ) → Allowed last call reply room → reply ≡ reply_in (with_readings (opened rules E T) (held last).readings) call
+  reached-reply call reply room p = allowed-reply last reached-sound call reply room p ∙ ap (λ (s : State). reply_in s call) reached-state
 
   -- ---- what it lists
 
@@ -198,7 +157,7 @@ module _ {book : List ℕ} {rules : List Rule} {E T : ℕ} {events : List Event}
   reached-short : (k : ℕ) → k < length (complaints rules (held last).readings) → length (complaint_line (complaint_at (complaints rules (held last).readings) k)) ≤ 230
   reached-short k h =
       let list : List Matched = complaints rules (held last).readings in
-      length-line book rules (held last).readings r.asked.reads r.bytes reached-narrow (complaint_at list k) (mem_at list k _ h)
+      length-line book rules (held last).readings r.reads r.bytes reached-narrow (complaint_at list k) (mem_at list k _ h)
 
   pub reached-listed : Listed rules (held last).readings last
   reached-listed =
@@ -206,53 +165,11 @@ module _ {book : List ℕ} {rules : List Rule} {E T : ℕ} {events : List Event}
       let state : State = with_readings (opened rules E T) (held last).readings in
       record {
         list = list;
-        matches = mem_complaints (held last).readings rules;
+        matches = λ d m. mem_complaints d (held last).readings rules m;
         ascending = complaints-ascending rules reached-kept (held last).readings reached-sound.ascending;
-        asked = λ k buffer reply room long h p. reached-reply (line k buffer) reply room p ∙ line-written (length last) state list refl k buffer h (omega (arith, reached-short k h));
-        no_more = λ k buffer reply room h p. reached-reply (line k buffer) reply room p ∙ line-none (length last) state list refl k buffer h;
+        asked = λ k buffer reply room long h p. reached-reply (line k buffer) reply room p ∙ line-written state list refl k buffer h (omega (arith, reached-short k h));
+        no_more = λ k buffer reply room h p. reached-reply (line k buffer) reply room p ∙ line-none state list refl k buffer h;
       }
-
--- ---- an accepted opening begins anew
-
--- a call behind which none is an accepted opening
-anew_here : (room : List ℕ) (call : Call) (reply : Reply call) (middle : List ℕ) {rest : List Event} {last : List ℕ} → Allowed room call reply middle → Run middle rest last
-    → All (λ (e : Event). NarrowCall e.0) ((call, reply) ∷ rest) → Since rest → Since ((call, reply) ∷ rest) ⊎ Anew ((call, reply) ∷ rest) last
-unfolding begins is_opened
-anew_here room (opening book E T) reply middle {rest} p r n f = ⊎_elim
-    (λ e.
-    let h = opened-opening room book E T e in
-    let is : reply ≡ o.Opened 0 0 0 = p.answered ∙ e in
-    inr (record {
-      earlier = [];
-      book = book;
-      rules = h.0;
-      E = E;
-      T = T;
-      later = rest;
-      is = ap (λ (a : OpenAnswer). (opening book E T, a) ∷ rest) is;
-      reached = record { lent = room; asked = h.1; answer = reply; start = middle; opens = p; run = r; since = f; bytes = n.0; numbers = n.1 };
-    }))
-    (λ h. inl (ap is_opened (p.answered ∙ h.2), f)) (open_either (length room) book E T)
-anew_here room (step x) reply middle p r n f = inl (refl, f)
-anew_here room counts reply middle p r n f = inl (refl, f)
-anew_here room (line k buffer) reply middle p r n f = inl (refl, f)
-anew_here room check reply middle p r n f = inl (refl, f)
-
--- of the calls made of a room, none was an accepted opening; or the last such is what the run since then goes back to
-pub run_anew : {room : List ℕ} {events : List Event} {last : List ℕ} → Run room events last → All (λ (e : Event). NarrowCall e.0) events → Since events ⊎ Anew events last
-run_anew ended n = inl tt
-run_anew (then {room = room} {middle = middle} {event = event} p r) n = ⊎_elim
-    (λ f. anew_here room event.0 event.1 middle p r n f)
-    (λ a. inr (record {
-      earlier = event ∷ a.earlier;
-      book = a.book;
-      rules = a.rules;
-      E = a.E;
-      T = a.T;
-      later = a.later;
-      is = ap (λ (es : List Event). event ∷ es) a.is;
-      reached = a.reached;
-    })) (run_anew r n.1)
 
 -- ---- two rooms that runs have led to
 
@@ -270,39 +187,32 @@ reached-same {rules = rules} {E = E} {T = T} {last = last} {last' = last'} r r' 
 
 -- and the same calls from there are answered the same
 pub runs_same : {room room' : List ℕ} (s : Sound room) (s' : Sound room') → state_of room s ≡ state_of room' s' → {later later' : List Event} {end end' : List ℕ} → Run room later end
-    → Run room' later' end' → All (Alike (length room) (length room')) (calls_of later) → calls_of later ≡ calls_of later' → later ≡ later'
-runs_same {room} {room'} s s' same {later} p q alike calls =
-    run_replies p s
-    ∙ events_alike (length room) (length room') (state_of room s) (calls_of later) alike
-    ∙ ap₂ (events_in (length room')) same calls
-    ∙ sym (run_replies q s')
+    → Run room' later' end' → calls_of later ≡ calls_of later' → later ≡ later'
+runs_same s s' same p q calls = run_replies p s ∙ ap₂ events_in same calls ∙ sym (run_replies q s')
 
 -- ---- added and removed again
 
-accepted-is : (w : Reading) (x : Answer) (n t c : ℕ) → a.Accepted n t c ≡ step_answer (add w) x → (d : ℕ) × (x ≡ v.accepted n t c d)
-unfolding step_answer changed
-accepted-is w (v.accepted n' t' c' d) n t c e = (d, cc)
-accepted-is w (v.refused number) n t c e = absurd (accepted_not_refused n t c number 0 e)
+accepted-is : (x : Answer) (n t c : ℕ) → a.Accepted n t c ≡ step_answer x → x ≡ v.accepted n t c
+unfolding step_answer
+accepted-is (v.accepted n' t' c') n t c e = cc
+accepted-is (v.refused number) n t c e = absurd (accepted_not_refused n t c number e)
 
 -- on values
-stepped_again : (s : State) → Settled s → Kept s.book → (w : Reading) (n t c d : ℕ) → (stepped s (add w)).answer ≡ v.accepted n t c d
-    → (stepped (stepped s (add w)).next (remove w)).next ≡ s
+stepped_again : (s : State) (w : Reading) (n t c : ℕ) → Kept s.book → (stepped s (add w)).answer ≡ v.accepted n t c → (stepped (stepped s (add w)).next (remove w)).next ≡ s
 unfolding stepped removed
-stepped_again s h k w n t c d e =
-    let g = added-accepted s w k n t c d e in
+stepped_again s w n t c k e =
+    let g = added-accepted s w k n t c e in
     let there : present (with_readings s (more s w)) w ≡ true = (mem_same is_same-exact w (more s w)).1 ((mem-inserted is_less w w s.readings).1 (inl refl)) in
-    rw (g.only, there, without-inserted is_same-exact w is_less s.readings g.new, taken-fits (with_readings s (more s w)) s.readings h.tokens)
+    rw (g.only, there, without-inserted is_same-exact w is_less s.readings g.new)
 
 -- a reading that is added and removed again leaves a room that holds what it held before
 pub room_again : {book : List ℕ} {rules : List Rule} {E T : ℕ} {events : List Event} {last : List ℕ} → Reached book rules E T events last → (w : Reading) (n t c : ℕ) (room : List ℕ)
     → Steps last (add w) (a.Accepted n t c) room → (answer : StepAnswer) (room' : List ℕ) → Steps room (remove w) answer room' → held room' ≡ held last
-unfolding state_after begins
+unfolding state_after
 room_again {last = last} r w n t c room p answer room' q =
     let s : Sound last = reached-sound r in
     let run : Run last ((step (add w), a.Accepted n t c) ∷ ((step (remove w), answer) ∷ [])) room' = then p (then q ended) in
     let s' : Sound room' = run_sound run s in
-    let yes = accepted-is w (stepped (state_of last s) (add w)).answer n t c (p.answered s) in
-    let settled : Settled (state_of last s) = rw (reached-state r) (record { ascending = s.ascending; readings = (reached-within r).0; tokens = (reached-within r).1 }) in
     let state : state_of room' s' ≡ state_of last s =
-    run_state run s s' ∙ stepped_again (state_of last s) settled (sound-kept last s) w n t c yes.0 yes.1 in
-    sound-same room' last s' s (run-book run (refl, (refl, tt)) s) (ap (λ (x : State). x.E) state) (ap (λ (x : State). x.T) state) (ap (λ (x : State). x.readings) state)
+    run_state run s s' ∙ stepped_again (state_of last s) w n t c (sound-kept last s) (accepted-is (stepped (state_of last s) (add w)).answer n t c (p.answered s)) in
+    sound-same room' last s' s (run-book run s) (ap (λ (x : State). x.E) state) (ap (λ (x : State). x.T) state) (ap (λ (x : State). x.readings) state)

@@ -16,10 +16,7 @@ use Rattle.book.proofs.Growth.{length-rule_places}
 use Rattle.book.proofs.Offsets.{rulePlaces-numbers, rulePlaces-wordings, rulePlaces-within}
 use Rattle.book.proofs.Stands.{read-stands}
 use Rattle.reading.specs.declared.Reading.{Reading}
-use Rattle.matching.specs.Complaints.{levels, Matched, matched_by, complaints}
-use Rattle.matching.specs.Entry.{Entry, present}
-use Rattle.matching.specs.Plain.{rule_complaints}
-use Rattle.matching.proofs.Laws.Plain.{ruleMatches-plain}
+use Rattle.matching.specs.Complaints.{levels, Matched, matched_by, rule_complaints, complaints}
 use Rattle.matching.specs.Lists.{concat_map, keep}
 use Rattle.room.specs.Parts.{part, twos}
 use Rattle.room.specs.Layout.{head_number, parts, rulePlacesPart}
@@ -38,7 +35,7 @@ use Rattle.sound.proofs.TokensBuilt.{Some, Agrees, full-built}
 
 -- a match found, with its rule
 abbrev pub found_by : (ℕ → Rule) → ℕ × List Reading → Matched
-found_by rule p = matched_by (rule p.0) (map present p.1)
+found_by rule p = matched_by (rule p.0) p.1
 
 -- of any rules, the first being number i and its first condition node c
 pub fulls-rules : (os : List ℕ) (read : ℕ → Reading) (pass : ℕ → List Reading → ℕ → Bool) (rule : ℕ → Rule) (i c : ℕ) (rules : List Rule) → Some rules
@@ -50,10 +47,8 @@ fulls-rules os read pass rule i c (r ∷ rules) some a e =
     let first : rule i ≡ r = rw (add-zero i) at (e 0 (omega arith)) in
     map-append (found_by rule) (map (λ t. (i, t.1)) full) (fulls os read pass (i + 1) (c + levels r) (map levels rules))
     ∙ ap₂ ◌++◌
-    (map-map (found_by rule) (λ t. (i, t.1)) full ∙ ap (map (λ t. matched_by (rule i) (map present t.1))) (full-built os read pass c r a.0 some.0)
-    ∙ map-map (λ t. matched_by (rule i) (map present t.1)) (at_node c) (rule_complaints r (map read os))
-    ∙ sym (map-map (matched_by (rule i)) (map present) (rule_complaints r (map read os)))
-    ∙ ap₂ (λ (x : Rule) (l : List (List (Entry Reading))). map (matched_by x) l) first (sym (ruleMatches-plain r (map read os))))
+    (map-map (found_by rule) (λ t. (i, t.1)) full ∙ ap (map (λ t. matched_by (rule i) t.1)) (full-built os read pass c r a.0 some.0)
+    ∙ map-map (λ t. matched_by (rule i) t.1) (at_node c) (rule_complaints r (map read os)) ∙ ap (λ (x : Rule). map (matched_by x) (rule_complaints r (map read os))) first)
     (fulls-rules os read pass rule (i + 1) (c + levels r) rules some.1 a.1 (entries-right no_rule rule i (r ∷ []) rules e))
 
 module _ (room : List ℕ) (s : Sound room) where
@@ -71,7 +66,7 @@ module _ (room : List ℕ) (s : Sound room) where
       ∙ fulls-rules (slots_of room) (readIn room) (passIn room) ruleAt 0 0 s.rules (sound-kept room s).some (sound-agrees room s) (λ n b. rw zero-add)
 
   pub found-complaint : (m : ℕ) (found : Bool) (rule count : ℕ) (readings : List Reading) → ComplaintAt room m found rule count readings
-      → m < length complaintsIn → (found ≡ true) × (complaint_at complaintsIn m ≡ matched_by (ruleAt rule) (map present (take count readings)))
+      → m < length complaintsIn → (found ≡ true) × (complaint_at complaintsIn m ≡ matched_by (ruleAt rule) (take count readings))
   found-complaint m found rule count readings c h =
       let all : List (ℕ × List Reading) = fulls (slots_of room) (readIn room) (passIn room) 0 0 (countsIn room) in
       let there : m < length all = omega (arith, ap length fulls-complaints, length-map all (found_by ruleAt)) in

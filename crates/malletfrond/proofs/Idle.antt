@@ -1,4 +1,4 @@
--- Idle programs, caught by all promises together. A room is opened for book B, and a program adds a reading, counts, asks for a line, adds another,
+-- The idle programs of document 01, caught by all promises together. A room is opened for book B, and a program adds a reading, counts, asks for a line, adds another,
 -- counts, asks for two lines, removes the first and counts: every run of it has the replies of the definition, computed here, and so no idle ones. Assumes nothing.
 use Prim.Native.Nat.{ℕ, ◌≤◌}
 use mathlib.Core.Path.{◌≡◌, refl, sym, ap, ◌∙◌}
@@ -14,19 +14,15 @@ use Rattle.book.proofs.Witness.{read_book-book_b}
 use Rattle.reading.specs.declared.Reading.{Reading}
 use Rattle.reading.specs.Reading.{is_less, is_same}
 use Rattle.matching.specs.Cases.{reading}
-use Rattle.matching.specs.Passes.{all}
-use Rattle.matching.specs.Lists.{when, concat_map, keep, has}
-use Rattle.matching.specs.Match.{extend, built, matches}
-use Rattle.matching.specs.Entry.{present, readings_of, offer, entry_same}
-use Rattle.matching.specs.Forest.{openings, sum, plain_count}
-use Rattle.matching.specs.Book.{passes_condition, passes_in}
+use Rattle.matching.specs.Passes.{all, passes_all}
+use Rattle.matching.specs.Lists.{when, concat_map, keep}
+use Rattle.matching.specs.Match.{extend, matches, token_count}
 use Rattle.matching.specs.Order.{inserted, same_tuple}
-use Rattle.matching.specs.Complaints.{Matched, matched_by, book_count, rule_matches, complaints, same_matched}
-use Rattle.matching.specs.Step.{State, add, remove, taken, added, removed, stepped, opened, with_readings}
+use Rattle.matching.specs.Preorder.{has}
+use Rattle.matching.specs.Complaints.{Matched, matched_by, pass_of, book_count, rule_complaints, complaints, same_matched}
+use Rattle.matching.specs.Step.{State, add, remove, added, removed, stepped, opened, with_readings}
 use Rattle.room.specs.Held.{Held, held}
-use Rattle.room.specs.Layout.{formula}
 use Rattle.lines.specs.Line.{entry, trimmed, ending, line_text}
-use Rattle.malletfrond.specs.declared.OpenAnswer.{OpenAnswer}
 use Rattle.malletfrond.specs.declared.OpenAnswer.TheVariants as o
 use Rattle.malletfrond.specs.declared.StepAnswer.{StepAnswer}
 use Rattle.malletfrond.specs.declared.StepAnswer.TheVariants as a
@@ -35,11 +31,10 @@ use Rattle.malletfrond.specs.declared.CountsAnswer.TheVariants as c
 use Rattle.malletfrond.specs.declared.LineAnswer.{LineAnswer}
 use Rattle.malletfrond.specs.declared.LineAnswer.TheVariants as l
 use Rattle.sound.specs.Sound.{Sound, state_of}
-use Rattle.malletfrond.specs.Answers.{limits_fit, changed, step_answer, complaint_line}
+use Rattle.malletfrond.specs.Answers.{step_answer, complaint_line}
 use Rattle.malletfrond.specs.Promise.{Opens}
-use Rattle.malletfrond.specs.Runs.{opening, step, counts, line, check, Event, Run, reply_in, state_after, is_accepted}
+use Rattle.malletfrond.specs.Runs.{step, counts, line, check, Event, Run, reply_in, state_after, is_accepted}
 use Rattle.malletfrond.specs.Demand.{is_refused}
-use Rattle.malletfrond.proofs.CallLaws.{opened-asked}
 use Rattle.malletfrond.proofs.LineLengths.{line-written, line-none}
 use Rattle.malletfrond.proofs.RunLaws.{calls_of, events_in, opens_state, run_sound, run_state, run_replies}
 
@@ -77,7 +72,7 @@ program buffer r =
 
 -- a complaint of book B's rule; of one and one its line is "1 1/1/1 1/1/1 |any pair" and a newline
 abbrev pub pair : Reading → Reading → Matched
-pair x y = matched_by rule_b (present x ∷ present y ∷ [])
+pair x y = matched_by rule_b (x ∷ y ∷ [])
 
 abbrev pub answered : List ℕ → Replies
 answered buffer =
@@ -88,7 +83,7 @@ answered buffer =
       added-two = a.Accepted 2 6 3;
       counted-two = c.Counted 2 6 4;
       line-two = (l.Written 24, spliced buffer 0 (complaint_line (pair one two)));
-      no_line = (l.Refused 16 0, buffer);
+      no_line = (l.Refused 16, buffer);
       removed-one = a.Accepted 1 2 3;
       counted_back = c.Counted 1 2 1;
     }
@@ -98,23 +93,23 @@ abbrev pub start : State
 start = opened (rule_b ∷ []) 256 2048
 
 -- what the steps leave, what they and the counts answer, and which complaints there are
-record Computed (long : ℕ) : Type 0 where
+record Computed : Type 0 where
   pub next_one : (stepped start (add one)).next ≡ with_readings start (one ∷ [])
   pub next-two : (stepped (with_readings start (one ∷ [])) (add two)).next ≡ with_readings start (one ∷ two ∷ [])
   pub next_back : (stepped (with_readings start (one ∷ two ∷ [])) (remove one)).next ≡ with_readings start (two ∷ [])
-  pub added-one : reply_in long start (step (add one)) ≡ a.Accepted 1 2 1
-  pub counted-one : reply_in long (with_readings start (one ∷ [])) counts ≡ c.Counted 1 2 1
-  pub added-two : reply_in long (with_readings start (one ∷ [])) (step (add two)) ≡ a.Accepted 2 6 3
-  pub counted-two : reply_in long (with_readings start (one ∷ two ∷ [])) counts ≡ c.Counted 2 6 4
-  pub removed-one : reply_in long (with_readings start (one ∷ two ∷ [])) (step (remove one)) ≡ a.Accepted 1 2 3
-  pub counted_back : reply_in long (with_readings start (two ∷ [])) counts ≡ c.Counted 1 2 1
+  pub added-one : reply_in start (step (add one)) ≡ a.Accepted 1 2 1
+  pub counted-one : reply_in (with_readings start (one ∷ [])) counts ≡ c.Counted 1 2 1
+  pub added-two : reply_in (with_readings start (one ∷ [])) (step (add two)) ≡ a.Accepted 2 6 3
+  pub counted-two : reply_in (with_readings start (one ∷ two ∷ [])) counts ≡ c.Counted 2 6 4
+  pub removed-one : reply_in (with_readings start (one ∷ two ∷ [])) (step (remove one)) ≡ a.Accepted 1 2 3
+  pub counted_back : reply_in (with_readings start (two ∷ [])) counts ≡ c.Counted 1 2 1
   pub listed_one : complaints (rule_b ∷ []) (one ∷ []) ≡ pair one one ∷ []
   pub listed_two : complaints (rule_b ∷ []) (one ∷ two ∷ []) ≡ pair one one ∷ pair one two ∷ pair two one ∷ pair two two ∷ []
 
-computed : (long : ℕ) → Computed long
-unfolding reply_in step_answer changed stepped removed added taken complaints rule_matches book_count plain_count sum openings matches built extend offer passes_in passes_condition all keep
-    concat_map when has inserted same_tuple same_matched entry_same is_less is_same rule_b
-computed long =
+computed : Computed
+unfolding reply_in step_answer stepped removed added complaints rule_complaints book_count token_count matches extend pass_of passes_all all keep
+    concat_map when has inserted same_tuple same_matched is_less is_same rule_b
+computed =
     record {
       next_one = refl;
       next-two = refl;
@@ -131,53 +126,50 @@ computed long =
 
 -- both lines have 24 bytes
 lines_long : (length (complaint_line (pair one one)) ≡ 24) × (length (complaint_line (pair one two)) ≡ 24)
-unfolding complaint_line readings_of line_text entry trimmed ending digits digits_to concat_map rule_b any_pair
+unfolding complaint_line line_text entry trimmed ending digits digits_to concat_map rule_b any_pair
 lines_long = (refl, refl)
 
 -- and differ in the last number of the second reading
 lines-apart : (buffer : List ℕ) → (get_or (spliced buffer 0 (complaint_line (pair one one))) 12 0 ≡ 49) × (get_or (spliced buffer 0 (complaint_line (pair one two))) 12 0 ≡ 50)
-unfolding spliced complaint_line readings_of line_text entry trimmed ending digits digits_to concat_map rule_b any_pair
+unfolding spliced complaint_line line_text entry trimmed ending digits digits_to concat_map rule_b any_pair
 lines-apart buffer = (refl, refl)
 
-module _ (long : ℕ) (buffer : List ℕ) (wide : 230 ≤ length buffer) where
-  line-one : reply_in long (with_readings start (one ∷ [])) (line 0 buffer) ≡ (answered buffer).line-one
-  line-one = line-written _ _ _ (computed long).listed_one 0 buffer (omega arith) (omega (arith, lines_long.0)) ∙ rw lines_long.0
+module _ (buffer : List ℕ) (long : 230 ≤ length buffer) where
+  line-one : reply_in (with_readings start (one ∷ [])) (line 0 buffer) ≡ (answered buffer).line-one
+  line-one = line-written _ _ computed.listed_one 0 buffer (omega arith) (omega (arith, lines_long.0)) ∙ rw lines_long.0
 
-  line-two : reply_in long (with_readings start (one ∷ two ∷ [])) (line 1 buffer) ≡ (answered buffer).line-two
-  line-two = line-written _ _ _ (computed long).listed_two 1 buffer (omega arith) (omega (arith, lines_long.1)) ∙ rw lines_long.1
+  line-two : reply_in (with_readings start (one ∷ two ∷ [])) (line 1 buffer) ≡ (answered buffer).line-two
+  line-two = line-written _ _ computed.listed_two 1 buffer (omega arith) (omega (arith, lines_long.1)) ∙ rw lines_long.1
 
-  no_line : reply_in long (with_readings start (one ∷ two ∷ [])) (line 4 buffer) ≡ (answered buffer).no_line
-  no_line = line-none _ _ _ (computed long).listed_two 4 buffer (omega arith)
+  no_line : reply_in (with_readings start (one ∷ two ∷ [])) (line 4 buffer) ≡ (answered buffer).no_line
+  no_line = line-none _ _ computed.listed_two 4 buffer (omega arith)
 
-  told : (r : Replies) → events_in long start (calls_of (program buffer r)) ≡ program buffer (answered buffer)
+  told : (r : Replies) → events_in start (calls_of (program buffer r)) ≡ program buffer (answered buffer)
   unfolding state_after
   told r =
-      let k = computed long in
+      let k = computed in
       rw (k.next_one, k.next-two, k.next_back, k.added-one, k.counted-one, k.added-two, k.counted-two, k.removed-one, k.counted_back, line-one, line-two, no_line)
 
 -- ---- the replies of a run
 
 -- the replies read off the events
 step_reply : Event → StepAnswer
-step_reply (opening book E T, reply) = a.Refused 0 0
 step_reply (step x, reply) = reply
-step_reply (counts, reply) = a.Refused 0 0
-step_reply (line k buffer, reply) = a.Refused 0 0
-step_reply (check, reply) = a.Refused 0 0
+step_reply (counts, reply) = a.Refused 0
+step_reply (line k buffer, reply) = a.Refused 0
+step_reply (check, reply) = a.Refused 0
 
 counts_reply : Event → CountsAnswer
-counts_reply (opening book E T, reply) = c.Refused 0 0
-counts_reply (step x, reply) = c.Refused 0 0
+counts_reply (step x, reply) = c.Refused 0
 counts_reply (counts, reply) = reply
-counts_reply (line k buffer, reply) = c.Refused 0 0
-counts_reply (check, reply) = c.Refused 0 0
+counts_reply (line k buffer, reply) = c.Refused 0
+counts_reply (check, reply) = c.Refused 0
 
 line_reply : Event → LineAnswer × List ℕ
-line_reply (opening book E T, reply) = (l.Refused 0 0, [])
-line_reply (step x, reply) = (l.Refused 0 0, [])
-line_reply (counts, reply) = (l.Refused 0 0, [])
+line_reply (step x, reply) = (l.Refused 0, [])
+line_reply (counts, reply) = (l.Refused 0, [])
 line_reply (line k buffer, reply) = reply
-line_reply (check, reply) = (l.Refused 0 0, [])
+line_reply (check, reply) = (l.Refused 0, [])
 
 replies_of : List Event → Replies
 replies_of events =
@@ -194,23 +186,18 @@ replies_of events =
       counted_back = counts_reply (at 8);
     }
 
-module _ (lent room : List ℕ) (enough : formula 256 2048 ≤ length lent) (answer : OpenAnswer) (opens : Opens lent book_b 256 2048 answer room) (buffer : List ℕ) (wide : 230 ≤ length buffer) (r : Replies) (last : List ℕ)
+module _ (lent room : List ℕ) (opens : Opens lent book_b 256 2048 (o.Opened 0 0 0) room) (buffer : List ℕ) (long : 230 ≤ length buffer) (r : Replies) (last : List ℕ)
     (run : Run room (program buffer r) last) where
-  -- the opening was accepted, with zeros
-  pub opens-at-all : answer ≡ o.Opened 0 0 0
-  unfolding limits_fit
-  opens-at-all = opens.answered ∙ opened-asked (length lent) book_b (rule_b ∷ []) 256 2048 refl enough read_book-book_b
-
   sound : Sound room
-  sound = opens.sound opens-at-all
+  sound = opens.sound refl
 
   state : state_of room sound ≡ start
-  state = opens_state lent book_b (rule_b ∷ []) 256 2048 _ room opens opens-at-all read_book-book_b sound
+  state = opens_state lent book_b (rule_b ∷ []) 256 2048 _ room opens refl read_book-book_b sound
 
   -- whoever runs the program, in whatever room, has these replies
   pub replies : r ≡ answered buffer
   unfolding replies_of step_reply counts_reply line_reply
-  replies = ap replies_of (run_replies run sound ∙ ap (λ (s : State). events_in (length room) s (calls_of (program buffer r))) state ∙ told (length room) buffer wide r)
+  replies = ap replies_of (run_replies run sound ∙ ap (λ (s : State). events_in s (calls_of (program buffer r))) state ∙ told buffer long r)
 
   -- one that refuses everything
   pub refuses-everything : ¬ All (λ (e : Event). is_refused e.0 e.1 ≡ true) (program buffer r)
@@ -222,7 +209,7 @@ module _ (lent room : List ℕ) (enough : formula 256 2048 ≤ length lent) (ans
   constant-reply = rw replies (
     λ (e : a.Accepted 1 2 1 ≡ a.Accepted 2 6 3). let z : ◌≡◌ {A = ℕ} 1 2 = cc in omega arith,
     λ (e : c.Counted 1 2 1 ≡ c.Counted 2 6 4). let z : ◌≡◌ {A = ℕ} 1 2 = cc in omega arith,
-    λ (e : l.Written 24 ≡ l.Refused 16 0). let z : ◌≡◌ {A = ℕ} 0 1 = cc in omega arith,
+    λ (e : l.Written 24 ≡ l.Refused 16). let z : ◌≡◌ {A = ℕ} 0 1 = cc in omega arith,
   )
 
   -- one that does no work: it leaves what it found, or counts nothing
@@ -230,7 +217,7 @@ module _ (lent room : List ℕ) (enough : formula 256 2048 ≤ length lent) (ans
   unfolding state_after
   does-no-work = (
     λ same.
-        let k = computed (length room) in
+        let k = computed in
         let s' : Sound last = run_sound run sound in
         let end : state_of last s' ≡ with_readings start (two ∷ []) = run_state run sound s' ∙ rw (state, k.next_one, k.next-two, k.next_back) in
         cons≢nil (sym (ap (λ (s : State). s.readings) end) ∙ ap (λ (h : Held). h.readings) same ∙ ap (λ (s : State). s.readings) state),

@@ -15,7 +15,6 @@ use Rattle.numbers.specs.Spliced.{spliced}
 use Rattle.numbers.proofs.Spliced.{drop-spliced, length-spliced}
 use Rattle.reading.specs.declared.Reading.{Reading}
 use Rattle.matching.specs.Complaints.{Matched}
-use Rattle.matching.proofs.Laws.Plain.{readings-present}
 use Rattle.room.specs.Broken.{broken}
 use Rattle.room.specs.Held.{Held, held, complete_of}
 use Rattle.room.specs.Layout.{parts, rulePlacesPart}
@@ -31,47 +30,47 @@ use Rattle.malletfrond.specs.declared.LineAnswer.TheVariants as l
 use Rattle.sound.specs.Sound.{Sound}
 use Rattle.malletfrond.specs.Answers.{complaint_line, complaint_at, line_answer, line_buffer}
 use Rattle.malletfrond.specs.Promise.{Lines}
-use Rattle.malletfrond.proofs.Finding.{ruleAt, complaintsIn, found-complaint, found_text}
+use Rattle.malletfrond.proofs.Finding.{complaintsIn, found-complaint, found_text}
 use Rattle.sound.proofs.SoundLaws.{sound-rules, sound-complete}
 
 -- a line written is not one refused
-written_not_refused : (n number place : ℕ) → l.Written n ≡ l.Refused number place → ⊥
-written_not_refused n number place e = let z : ◌≡◌ {A = ℕ} 0 1 = cc in omega arith
+written_not_refused : (n number : ℕ) → l.Written n ≡ l.Refused number → ⊥
+written_not_refused n number e = let z : ◌≡◌ {A = ℕ} 0 1 = cc in omega arith
 
 -- ---- a refusal
 
 module _ (room : List ℕ) (k : ℕ) (buffer : List ℕ) where
-  pub lines-broken : broken room ≡ true → Lines room k buffer (l.Refused 10 0) buffer
+  pub lines-broken : broken room ≡ true → Lines room k buffer (l.Refused 10) buffer
   lines-broken h =
       let never : broken room ≡ false → ⊥ = λ f. false≢true (sym f ∙ h) in
       record {
         refused_10 = λ t. refl;
-        numbered = λ number place f e. absurd (never f);
-        untouched = λ number place e. refl;
+        numbered = λ number f e. absurd (never f);
+        untouched = λ number e. refl;
         answered = λ s. absurd (never s.whole);
         wrote = λ s. absurd (never s.whole);
-        most = λ n e. absurd (written_not_refused n 10 0 (sym e));
+        most = λ n e. absurd (written_not_refused n 10 (sym e));
         after = λ n e. refl;
         long = refl;
       }
 
   lines-refused : (number : ℕ) → broken room ≡ false → Memᴰ number (16 ∷ 15 ∷ [])
-      → ((s : Sound room) → (line_answer (complaintsIn room s) k buffer ≡ l.Refused number 0) × (line_buffer (complaintsIn room s) k buffer ≡ buffer))
-      → Lines room k buffer (l.Refused number 0) buffer
+      → ((s : Sound room) → (line_answer (complaintsIn room s) k buffer ≡ l.Refused number) × (line_buffer (complaintsIn room s) k buffer ≡ buffer))
+      → Lines room k buffer (l.Refused number) buffer
   lines-refused number whole one same =
       record {
         refused_10 = λ t. absurd (false≢true (sym whole ∙ t));
-        numbered = λ n place f e. let is : n ≡ number = cc in let front : place ≡ 0 = cc in (Memᴰ.cast is one, front);
-        untouched = λ n place e. refl;
+        numbered = λ n f e. let is : n ≡ number = cc in Memᴰ.cast is one;
+        untouched = λ n e. refl;
         answered = λ s. sym (same s).0;
         wrote = λ s. sym (same s).1;
-        most = λ n e. absurd (written_not_refused n number 0 (sym e));
+        most = λ n e. absurd (written_not_refused n number (sym e));
         after = λ n e. refl;
         long = refl;
       }
 
   -- no complaint k
-  pub lines_none : broken room ≡ false → complete_of room ≤ k → Lines room k buffer (l.Refused 16 0) buffer
+  pub lines_none : broken room ≡ false → complete_of room ≤ k → Lines room k buffer (l.Refused 16) buffer
   unfolding line_answer line_buffer
   lines_none whole h = lines-refused 16 whole (Memᴰ.head refl) (λ s.
       let past = le-ltb k (length (complaintsIn room s)) (omega (arith, sound-complete room s)) in
@@ -79,13 +78,13 @@ module _ (room : List ℕ) (k : ℕ) (buffer : List ℕ) where
 
   -- a room that counts a complaint k where none is found is not sound
   pub lines-lost : {rule count : ℕ} {readings : List Reading} → broken room ≡ false → k < complete_of room → ComplaintAt room k false rule count readings
-      → Lines room k buffer (l.Refused 16 0) buffer
+      → Lines room k buffer (l.Refused 16) buffer
   lines-lost {rule} {count} {readings} whole h c = lines-refused 16 whole (Memᴰ.head refl)
       (λ s. absurd (false≢true (found-complaint room s k false rule count readings c (omega (arith, sound-complete room s))).0))
 
   -- nor is one where the record of the complaint's rule goes past the book's part
   pub lines-beyond : {rule count : ℕ} {readings : List Reading} → broken room ≡ false → ComplaintAt room k true rule count readings
-      → 8208 < 16 + uint 2 (rulePlacesPart (parts room)) (rule * 2) + 27 → Lines room k buffer (l.Refused 16 0) buffer
+      → 8208 < 16 + uint 2 (rulePlacesPart (parts room)) (rule * 2) + 27 → Lines room k buffer (l.Refused 16) buffer
   lines-beyond {rule} whole c h = lines-refused 16 whole (Memᴰ.head refl)
       (λ s. absurd (let t = found_text room s rule (uint 2 (rulePlacesPart (parts room)) (rule * 2)) (c.rule_in refl) refl in omega arith))
 
@@ -124,7 +123,7 @@ abbrev Says : List Matched → ℕ → List ℕ → Type 0
 Says list k text = (k < length list) × (complaint_line (complaint_at list k) ≡ text)
 
 module _ (list : List Matched) (k : ℕ) (buffer text : List ℕ) (is : Says list k text) where
-  line-short : length buffer < length text → (line_answer list k buffer ≡ l.Refused 15 0) × (line_buffer list k buffer ≡ buffer)
+  line-short : length buffer < length text → (line_answer list k buffer ≡ l.Refused 15) × (line_buffer list k buffer ≡ buffer)
   unfolding line_answer line_buffer text_in
   line-short short =
       let there = lt-ltb k (length list) is.0 in
@@ -140,7 +139,7 @@ module _ (list : List Matched) (k : ℕ) (buffer text : List ℕ) (is : Says lis
 
 -- the answer by how long the line is that was put, 0 where there was no place for it
 abbrev pub Put : List ℕ → ℕ → List ℕ → ℕ → List ℕ → Type 0
-Put room k buffer n buffer' = (n ≡ 0 → Lines room k buffer (l.Refused 15 0) buffer') × (¬ (n ≡ 0) → Lines room k buffer (l.Written n) buffer')
+Put room k buffer n buffer' = (n ≡ 0 → Lines room k buffer (l.Refused 15) buffer') × (¬ (n ≡ 0) → Lines room k buffer (l.Written n) buffer')
 
 -- complaint k as it is found, its rule's number and wording as they stand in the stored book, in a buffer that has place for the line or not
 module _ {room : List ℕ} {k : ℕ} {rule count : ℕ} {readings : List Reading} (whole : broken room ≡ false) (h : k < complete_of room) (c : ComplaintAt room k true rule count readings)
@@ -156,7 +155,6 @@ module _ {room : List ℕ} {k : ℕ} {rule count : ℕ} {readings : List Reading
       let bytes : wording ≡ take 24 (drop (16 + place + 3) room) = rw wide at worded in (
         here,
         ap complaint_line (found-complaint room s k true rule count readings c here).1
-            ∙ ap (λ (t : List Reading). line_text (ruleAt room s rule).number t (ruleAt room s rule).wording) (readings-present (take count readings))
             ∙ ap₂ (λ (n : ℕ) (w : List ℕ). line_text n (take count readings) w) (sym (numbered ∙ there.1)) (sym (bytes ∙ there.2))
             ∙ sym says,
       )
@@ -173,8 +171,8 @@ module _ {room : List ℕ} {k : ℕ} {rule count : ℕ} {readings : List Reading
         λ z. absurd (omega arith),
         λ nz. rw (all, written) (record {
           refused_10 = λ t. absurd (false≢true (sym whole ∙ t));
-          numbered = λ m place f e. absurd (written_not_refused (length text) m place e);
-          untouched = λ m place e. absurd (written_not_refused (length text) m place e);
+          numbered = λ m f e. absurd (written_not_refused (length text) m e);
+          untouched = λ m e. absurd (written_not_refused (length text) m e);
           answered = λ s. sym (line-fits (complaintsIn room s) k buffer text (sound-says s) fits).0;
           wrote = λ s. sym (line-fits (complaintsIn room s) k buffer text (sound-says s) fits).1;
           most = λ m e. let is : length text ≡ m = cc in (omega arith, omega arith);
@@ -207,4 +205,4 @@ lines_same room other k buffer x y buffer' buffer'' s s' same p q =
 -- of a broken room: the same answer, and no byte is changed
 pub lines-once : (room : List ℕ) (k : ℕ) (buffer : List ℕ) (x y : LineAnswer) (buffer' buffer'' : List ℕ) → broken room ≡ true
     → Lines room k buffer x buffer' → Lines room k buffer y buffer'' → (x ≡ y) × (buffer' ≡ buffer) × (buffer'' ≡ buffer)
-lines-once room k buffer x y buffer' buffer'' h p q = (p.refused_10 h ∙ sym (q.refused_10 h), p.untouched 10 0 (p.refused_10 h), q.untouched 10 0 (q.refused_10 h))
+lines-once room k buffer x y buffer' buffer'' h p q = (p.refused_10 h ∙ sym (q.refused_10 h), p.untouched 10 (p.refused_10 h), q.untouched 10 (q.refused_10 h))

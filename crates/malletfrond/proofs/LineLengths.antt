@@ -1,7 +1,7 @@
 -- A line is written where the buffer has place for it. It has at most 230 bytes: five digits of the rule's number, 33 bytes for each of at most six readings, 27 for
 -- the ending. Assumes nothing.
 use Prim.Native.Nat.{ℕ, suc, ◌+◌, ◌*◌, ◌≤◌, ◌<◌}
-use mathlib.Core.Path.{◌≡◌, refl}
+use mathlib.Core.Path.{◌≡◌}
 use mathlib.Core.Bool.{Bool, true, false, cond, ◌&&◌}
 use mathlib.Core.Logic.{⊎_elim}
 use mathlib.Core.List.Memᴰ
@@ -9,7 +9,7 @@ use mathlib.Core.List.{List, [], ◌∷◌, Memᴰ}
 use native.Mathlib.Omega.{arith}
 use borrow.Author.Tests.{lt-ltb, le-ltb}
 use lib.Dec.{eqb}
-use lib.ListN.{length, get_or, length-append, length-map}
+use lib.ListN.{length, get_or, length-append}
 use Rattle.numbers.specs.Spliced.{spliced}
 use Rattle.numbers.proofs.BigEndian.{uint-below}
 use Rattle.numbers.proofs.Digits.{length-digits_16}
@@ -24,10 +24,7 @@ use Rattle.reading.specs.declared.Reading.{Reading}
 use Rattle.matching.specs.Lists.{concat_map}
 use Rattle.matching.specs.Complaints.{Matched, levels, complaints}
 use Rattle.matching.specs.Step.{State}
-use Rattle.matching.specs.Book.{ordinary}
-use Rattle.matching.specs.Entry.{readings_of}
 use Rattle.matching.proofs.Laws.Complaints.{mem_complaints}
-use Rattle.matching.proofs.Laws.Entries.{readings-short, match-present}
 use Rattle.lines.specs.Line.{entry, entries, trimmed, text_in}
 use Rattle.lines.proofs.LineLaws.{length-entry-most, length-line_text}
 use Rattle.malletfrond.specs.declared.LineAnswer.TheVariants as l
@@ -37,24 +34,24 @@ use Rattle.malletfrond.specs.Demand.{Narrow}
 
 -- ---- what is answered
 
-module _ (long : ℕ) (s : State) (list : List Matched) (is : complaints s.book s.readings ≡ list) (k : ℕ) (buffer : List ℕ) where
+module _ (s : State) (list : List Matched) (is : complaints s.book s.readings ≡ list) (k : ℕ) (buffer : List ℕ) where
   pub line-written : k < length list → length (complaint_line (complaint_at list k)) ≤ length buffer
-      → reply_in long s (line k buffer) ≡ (l.Written (length (complaint_line (complaint_at list k))), spliced buffer 0 (complaint_line (complaint_at list k)))
+      → reply_in s (line k buffer) ≡ (l.Written (length (complaint_line (complaint_at list k))), spliced buffer 0 (complaint_line (complaint_at list k)))
   unfolding reply_in line_answer line_buffer text_in
   line-written h fits = rw (is, lt-ltb k (length list) h, le-ltb (length buffer) (length (complaint_line (complaint_at list k))) fits)
 
-  pub line-none : length list ≤ k → reply_in long s (line k buffer) ≡ (l.Refused 16 0, buffer)
+  pub line-none : length list ≤ k → reply_in s (line k buffer) ≡ (l.Refused 16, buffer)
   unfolding reply_in line_answer line_buffer
   line-none h = rw (is, le-ltb k (length list) h)
 
 -- ---- how long it is
 
-length-entries : (t : List Reading) → ((r : Reading) → Memᴰ r t → Narrow r) → length (entries t) ≤ length t * 33
+length-entries : (d : Reading) (t : List Reading) → ((j : ℕ) → j < length t → Narrow (get_or t j d)) → length (entries t) ≤ length t * 33
 unfolding concat_map
-length-entries [] n = omega arith
-length-entries (r ∷ t) n =
-    let first = n r (Memᴰ.head refl) in
-    omega (arith, length-append (entry r) (entries t), length-entry-most r first.0 first.1 first.2, length-entries t (λ x i. n x (Memᴰ.tail i)))
+length-entries d [] n = omega arith
+length-entries d (r ∷ t) n =
+    let first = n 0 (omega arith) in
+    omega (arith, length-append (entry r) (entries t), length-entry-most r first.0 first.1 first.2, length-entries d t (λ j h. n (suc j) (omega arith)))
 
 length-trimmed : (l : List ℕ) → length (trimmed l) ≤ length l
 unfolding trimmed
@@ -79,16 +76,16 @@ pub length-line : (book : List ℕ) (rules : List Rule) (R : List Reading) → r
     → ((r : Reading) → Memᴰ r R → Narrow r) → (m : Matched) → Memᴰ m (complaints rules R) → length (complaint_line m) ≤ 230
 unfolding complaint_line
 length-line book rules R reads byte narrow m i =
-    let c = (mem_complaints R rules m).0 i in
+    let d : Reading = record { line = 0; column = 0; value = 0 } in
+    let c = (mem_complaints d R rules m).0 i in
     let k = rule_narrow book byte 0 rules (read-stands book rules reads).0.stand (read_kept book rules reads).each m.rule c.0 in
-    let t : List Reading = readings_of m.entries in
-    let few : length t ≤ levels m.rule = omega (arith, readings-short m.entries, c.1.long, length-map m.rule.conditions ordinary) in
+    let long : length m.readings ≡ levels m.rule = c.1.long in
     omega (
       arith,
       k.0.most,
       k.0.whole,
-      length-line_text m.rule.number t m.rule.wording,
+      length-line_text m.rule.number m.readings m.rule.wording,
       length-digits_16 m.rule.number k.1,
-      length-entries t (λ r j. narrow r (match-present c.1 r j)),
+      length-entries d m.readings (λ j h. narrow (get_or m.readings j d) (c.1.present j (omega arith))),
       length-trimmed m.rule.wording,
     )

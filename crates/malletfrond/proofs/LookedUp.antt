@@ -82,7 +82,7 @@ module _ {room : List ℕ} {w : Reading} {n p : ℕ} {found : Bool} (k : LookedU
     E-read : E ≡ head_number room 0
     E-read = number_read room 0 (lit≤ tt) read
 
-    pub adds-no-slot : E ≤ n → Steps room (add w) (a.Refused 13 0) room
+    pub adds-no-slot : E ≤ n → Steps room (add w) (a.Refused 13) room
     adds-no-slot h = adds-full room w k.p_is k.whole (k.found-is ∙ new) (omega (arith, E-read))
 
     module _ (free : n < E) where
@@ -93,7 +93,7 @@ module _ {room : List ℕ} {w : Reading} {n p : ℕ} {found : Bool} (k : LookedU
         T-read : T ≡ limit room
         T-read = number_read room 1 (lit≤ tt) limit-read
 
-        pub adds-too-many : T < tokens → Steps room (add w) (a.Refused 14 0) room'
+        pub adds-too-many : T < tokens → Steps room (add w) (a.Refused 14) room'
         adds-too-many h = adds-over room w k.p_is k.whole (k.found-is ∙ new) slot-free at fits (omega (arith, T-read))
 
         pub adds-new : {before changed : ℕ} → tokens ≤ T → before ≡ complete_of room → changed ≡ complete - before → Steps room (add w) (a.Accepted (n + 1) tokens changed) room'

@@ -21,7 +21,7 @@ use Rattle.book.specs.Read.{BookRead, read_book, accepted, refused, answer_of, r
 use Rattle.book.proofs.Growth.{length-rule_places, length-condition_places, counts, length-counts}
 use Rattle.book.proofs.Limits.{read_kept, condition_count_kept}
 use Rattle.book.proofs.Stands.{read-stands}
-use Rattle.matching.specs.Complaints.{memories, book_tokens}
+use Rattle.matching.specs.Complaints.{memories}
 use Rattle.matching.specs.Order.{nought}
 use Rattle.room.specs.Parts.{part, cut, below, twos}
 use Rattle.room.specs.Layout.{formula, widths, head_number, parts, head, bookPart, ruleConditionsPart, orderPart, slotsPart, rowsPart, nodesPart, lastsPart, restPart}
@@ -32,11 +32,10 @@ use Rattle.room.proofs.BrokenLaws.{Whole, whole-not-broken}
 use Rattle.room.proofs.Written.{opened-number, parts-written}
 use Rattle.room.proofs.Order.{length-below, once-below}
 use Rattle.malletfrond.specs.declared.OpenAnswer.TheVariants as o
-use Rattle.sound.specs.Sound.{Sound, as_held, held_of}
+use Rattle.sound.specs.Sound.{Sound, held_of, tokens_held}
 use Rattle.malletfrond.specs.Answers.{limits_fit, opened_by, open_answer}
 use Rattle.malletfrond.specs.Promise.{Opens}
 use Rattle.malletfrond.proofs.CallLaws.{opened_not_refused}
-use Rattle.sound.proofs.PlainHeld.{tokens_plain}
 use Rattle.sound.proofs.SoundLaws.{held_ext, held-sound}
 use Rattle.checking.proofs.IndexLaws.{take-padded}
 use Rattle.sound.proofs.Tables.{rule_places-most, condition_places-most, length-padded, get_or-padded, twos-padded, counts_kept, sum-counts, uint_zeros, twos_zeros}
@@ -117,13 +116,13 @@ module _ (room room' book : List ℕ) (rules : List Rule) (E T : ℕ) (fit : Lim
       ∙ ap (λ (n : ℕ). replicate n []) (length-below (head_number room' 6) ∙ number 6 (omega arith))
       ∙ sym (memories-none rules)
 
-  no-tokens : (held room').tokens ≡ map as_held (book_tokens rules [])
+  no-tokens : (held room').tokens ≡ tokens_held 0 rules []
   unfolding held stored tokens_from
   no-tokens =
       ap (λ (n : ℕ). map (λ t. record { node = t.0; readings = t.1 })
       (tokens_from (level (take (head_number room' 5) (ruleConditionsPart (parts room')))) (reading_at (slotsPart (parts room'))) []
       (stored (take n (nodesPart (parts room'))) (take n (lastsPart (parts room')))))) (number 3 (omega arith))
-      ∙ sym (tokens_plain rules [] ∙ tokens_held-none 0 rules)
+      ∙ sym (tokens_held-none 0 rules)
 
   opened-holds : held room' ≡ held_of book rules E T []
   unfolding held held_of opened

@@ -1,5 +1,5 @@
 -- A removal answered: refused where the reading is not present, and else accepted with its counts. Assumes nothing.
-use Prim.Native.Nat.{ℕ, ◌-◌, ◌≤◌}
+use Prim.Native.Nat.{ℕ, ◌-◌}
 use mathlib.Core.Path.{◌≡◌, refl, sym, ap, ◌∙◌}
 use mathlib.Core.Bool.{true, false}
 use mathlib.Core.List.Memᴰ
@@ -10,18 +10,17 @@ use Rattle.reading.specs.declared.Reading.{Reading}
 use Rattle.reading.specs.Reading.{is_less, is_same}
 use Rattle.matching.specs.Complaints.{book_count, complaints}
 use Rattle.matching.specs.Order.{without}
-use Rattle.matching.specs.Step.{State, present, less, refuse, not_among, removed, remove, stepped}
+use Rattle.matching.specs.Step.{State, accepted, present, less, refuse, with_readings, not_among, removed, remove, stepped}
 use Rattle.matching.proofs.Laws.Members.{mem_same}
 use Rattle.matching.proofs.Laws.Orders.{length_inserted, inserted-without}
 use Rattle.matching.proofs.Laws.ReadingOrder.{is_less-order, is_same-exact}
-use Rattle.matching.proofs.Laws.Steps.{accepting, taken-fits}
 use Rattle.room.specs.Broken.{broken}
 use Rattle.room.specs.Layout.{head_number, parts, orderPart, slotsPart}
 use Rattle.room.specs.Held.{held, complete_of}
 use Rattle.step.specs.Worked.{RemovedAt}
 use Rattle.malletfrond.specs.declared.StepAnswer.TheVariants as a
 use Rattle.sound.specs.Sound.{Sound, state_of}
-use Rattle.malletfrond.specs.Answers.{changed, step_answer, refusals}
+use Rattle.malletfrond.specs.Answers.{refusals}
 use Rattle.malletfrond.specs.Promise.{Steps}
 use Rattle.malletfrond.proofs.AddLaws.{stands, is-present, present_many}
 use Rattle.sound.proofs.AnswerLaws.{vanished}
@@ -39,32 +38,36 @@ module _ (s : State) (w : Reading) where
   unfolding stepped removed
   removed-12 e = rw e
 
-  removed-yes : present s w ≡ true → book_count s.book (less s w) ≤ s.T → stepped s (remove w) ≡ accepting s (less s w)
+  removed-yes : present s w ≡ true → stepped s (remove w)
+      ≡ record {
+        answer = accepted (length (less s w)) (book_count s.book (less s w)) (length (not_among (complaints s.book (less s w)) (complaints s.book s.readings)));
+        next = with_readings s (less s w);
+      }
   unfolding stepped removed
-  removed-yes e h = rw e (taken-fits s (less s w) h)
+  removed-yes e = rw e
 
 -- ---- in a room that is not broken
 
 module _ (room : List ℕ) (w : Reading) {p : ℕ} (place : Sound room → p ≡ rank_in room w) (whole : broken room ≡ false) where
-  pub removes-absent : stands room w p ≡ false → Steps room (remove w) (a.Refused 12 0) room
+  pub removes-absent : stands room w p ≡ false → Steps room (remove w) (a.Refused 12) room
   unfolding refusals
   removes-absent e = steps-refused room (remove w) 12 whole (Memᴰ.head refl) (λ s. removed-12 (state_of room s) w (is-present room w place whole s false e))
 
   pub removes-accepted : stands room w p ≡ true → {tokens complete : ℕ} {room' : List ℕ} → RemovedAt room p tokens complete room'
       → Steps room (remove w) (a.Accepted (head_number room 2 - 1) tokens (complete_of room - complete)) room'
-  unfolding held step_answer changed
+  unfolding held
   removes-accepted there {tokens} {complete} {room'} at =
       steps-accepted room room' (remove w) (head_number room 2 - 1) tokens (complete_of room - complete) at.aside _ _ complete whole at.written at.long
       (λ s.
       let R = (held room).readings in
       let R' = without is_same w R in
+      let yes = removed-yes (state_of room s) w (is-present room w place whole s true there) in
       let found = stands-there (slotsPart (parts room)) w (orderPart (parts room)) (head_number room 2) p there in
       let n = removing-next room s w p found.0 found.1 at in
-      let yes = removed-yes (state_of room s) w (is-present room w place whole s true there) n.fits in
       let old = (mem_same is_same-exact w R).0 (is-present room w place whole s true there) in
       let readings : length R' ≡ head_number room 2 - 1 =
       omega (arith, length_inserted is_less w R', ap length (inserted-without is_same-exact w is_less-order s.ascending old), present_many room whole) in
       let count : book_count s.rules R' ≡ tokens = sym (sym at.tokens_are ∙ next-tokens room room' s _ _ _ R' complete n) in
-      let vanishes : length (not_among (complaints s.rules R') (complaints s.rules R)) ≡ complete_of room - complete =
+      let changed : length (not_among (complaints s.rules R') (complaints s.rules R)) ≡ complete_of room - complete =
       vanished s.rules (sound-kept room s) w R ∙ rw (sym (next-complete room room' s _ _ _ R' complete n), sound-complete room s) in
-      rw yes (rw (readings, count, vanishes), n))
+      rw yes (rw (readings, count, changed), n))

@@ -8,7 +8,7 @@ use mathlib.Core.List.Memᴰ
 use mathlib.Core.List.{List, Memᴰ}
 use native.Mathlib.Omega.{arith}
 use lib.ListN.{length, drop}
-use Rattle.matching.specs.Step.{Stepped, Step, add, remove, refuse, stepped}
+use Rattle.matching.specs.Step.{Stepped, Step, add, remove, accepted, refuse, stepped}
 use Rattle.room.specs.Parts.{cut}
 use Rattle.room.specs.Layout.{widths, head_number, limit, formula, parts, restPart}
 use Rattle.room.specs.Broken.{broken}
@@ -26,13 +26,13 @@ use Rattle.sound.proofs.Resumed.{next-holds, next-sound}
 -- ---- a refusal
 
 module _ (room : List ℕ) (step : Step) where
-  pub steps-broken : broken room ≡ true → Steps room step (a.Refused 10 0) room
+  pub steps-broken : broken room ≡ true → Steps room step (a.Refused 10) room
   steps-broken h =
       let never : broken room ≡ false → ⊥ = λ f. false≢true (sym f ∙ h) in
       record {
         refused_10 = λ t. refl;
-        numbered = λ number place f e. absurd (never f);
-        untouched = λ number place e. refl;
+        numbered = λ number f e. absurd (never f);
+        untouched = λ number e. refl;
         answered = λ s. absurd (never s.whole);
         sound = λ s. s;
         holds = λ s. absurd (never s.whole);
@@ -41,14 +41,14 @@ module _ (room : List ℕ) (step : Step) where
       }
 
   pub steps-refused : (number : ℕ) → broken room ≡ false → Memᴰ number (refusals step)
-      → ((s : Sound room) → stepped (state_of room s) step ≡ refuse (state_of room s) number) → Steps room step (a.Refused number 0) room
+      → ((s : Sound room) → stepped (state_of room s) step ≡ refuse (state_of room s) number) → Steps room step (a.Refused number) room
   unfolding step_answer
   steps-refused number whole one same =
       record {
         refused_10 = λ t. absurd (false≢true (sym whole ∙ t));
-        numbered = λ n place f e. let is : n ≡ number = cc in let front : place ≡ 0 = cc in (Memᴰ.cast is one, front);
-        untouched = λ n place e. refl;
-        answered = λ s. sym (ap (λ (p : Stepped). step_answer step p.answer) (same s));
+        numbered = λ n f e. let is : n ≡ number = cc in Memᴰ.cast is one;
+        untouched = λ n e. refl;
+        answered = λ s. sym (ap (λ (p : Stepped). step_answer p.answer) (same s));
         sound = λ s. s;
         holds = λ s. s.holds ∙ sym (ap (λ (p : Stepped). held_of (held room).book s.rules (held room).E (held room).T p.next.readings) (same s));
         past = refl;
@@ -67,21 +67,22 @@ past-written room room' aside slots rows e =
     rw end at (ap (λ (ps : List (List ℕ)). restPart ps) e)
 
 -- a step accepted is not one refused
-pub accepted_not_refused : (readings tokens changed number place : ℕ) → a.Accepted readings tokens changed ≡ a.Refused number place → ⊥
-accepted_not_refused readings tokens changed number place e = let z : ◌≡◌ {A = ℕ} 0 1 = cc in omega arith
+pub accepted_not_refused : (readings tokens changed number : ℕ) → a.Accepted readings tokens changed ≡ a.Refused number → ⊥
+accepted_not_refused readings tokens changed number e = let z : ◌≡◌ {A = ℕ} 0 1 = cc in omega arith
 
 -- whatever number of complete matches was counted aside
 pub steps-accepted : (room room' : List ℕ) (step : Step) (readings tokens changed : ℕ) (aside : Aside) (slots rows : List ℕ) (complete : ℕ) → broken room ≡ false
     → cut 0 (widths (limit room)) room' ≡ written.stepped aside slots rows (parts room) → length room' ≡ length room
-    → ((s : Sound room) → (step_answer step (stepped (state_of room s) step).answer ≡ a.Accepted readings tokens changed)
+    → ((s : Sound room) → ((stepped (state_of room s) step).answer ≡ accepted readings tokens changed)
     × Next room s aside slots rows (stepped (state_of room s) step).next.readings complete)
     → Steps room step (a.Accepted readings tokens changed) room'
+unfolding step_answer
 steps-accepted room room' step readings tokens changed aside slots rows complete whole e long does =
     record {
       refused_10 = λ t. absurd (false≢true (sym whole ∙ t));
-      numbered = λ n place f q. absurd (accepted_not_refused readings tokens changed n place q);
-      untouched = λ n place q. absurd (accepted_not_refused readings tokens changed n place q);
-      answered = λ s. sym (does s).0;
+      numbered = λ n f q. absurd (accepted_not_refused readings tokens changed n q);
+      untouched = λ n q. absurd (accepted_not_refused readings tokens changed n q);
+      answered = λ s. sym (ap step_answer (does s).0);
       sound = λ s. next-sound room room' s aside slots rows (stepped (state_of room s) step).next.readings complete (does s).1 e long;
       holds = λ s. next-holds room room' s aside slots rows (stepped (state_of room s) step).next.readings complete (does s).1 e long;
       past = past-written room room' aside slots rows e;
@@ -93,7 +94,7 @@ steps-accepted room room' step readings tokens changed aside slots rows complete
 -- the same answer, and no byte is changed
 pub steps-once : (room : List ℕ) (step : Step) (x y : StepAnswer) (room' room'' : List ℕ) → broken room ≡ true → Steps room step x room' → Steps room step y room''
     → (x ≡ y) × (room' ≡ room) × (room'' ≡ room)
-steps-once room step x y room' room'' h p q = (p.refused_10 h ∙ sym (q.refused_10 h), p.untouched 10 0 (p.refused_10 h), q.untouched 10 0 (q.refused_10 h))
+steps-once room step x y room' room'' h p q = (p.refused_10 h ∙ sym (q.refused_10 h), p.untouched 10 (p.refused_10 h), q.untouched 10 (q.refused_10 h))
 
 -- ---- a sound room is never refused as broken
 
@@ -104,5 +105,5 @@ not_10 (add w) m = ⊎_elim (λ (e : 10 ≡ 11). omega arith)
     (Memᴰ.cases_cons m)
 not_10 (remove w) m = ⊎_elim (λ (e : 10 ≡ 12). omega arith) Memᴰ.not-nil (Memᴰ.cases_cons m)
 
-pub steps-never_10 : (room : List ℕ) (step : Step) (answer : StepAnswer) (room' : List ℕ) → Sound room → Steps room step answer room' → ¬ (answer ≡ a.Refused 10 0)
-steps-never_10 room step answer room' s p e = not_10 step (p.numbered 10 0 s.whole e).0
+pub steps-never_10 : (room : List ℕ) (step : Step) (answer : StepAnswer) (room' : List ℕ) → Sound room → Steps room step answer room' → ¬ (answer ≡ a.Refused 10)
+steps-never_10 room step answer room' s p e = not_10 step (p.numbered 10 s.whole e)

@@ -1,10 +1,9 @@
--- The numbers, places and values of docs/BOOK.md for each case of the answers. Assumes nothing: these are definitions.
+-- 01's numbers and values for each case of the answers. Assumes nothing: these are definitions.
 use Rattle.std.specs.Prelude.{ℕ, Bool, cond, ◌&&◌, List, [], ◌∷◌, ltb, leb, length, get_or}
 use Rattle.book.specs.Read.{BookRead, accepted, refused, read_book}
 use Rattle.book.specs.Rules.{no_rule}
 use Rattle.lines.specs.Line.{line_text, text_in}
 use Rattle.matching.specs.Complaints.{Matched}
-use Rattle.matching.specs.Entry.{readings_of}
 use Rattle.matching.specs.Step.{Answer, Step, add, remove}
 use Rattle.matching.specs.Step as step
 use Rattle.room.specs.Layout.{formula, head_number}
@@ -33,21 +32,14 @@ unfoldable pub open_answer : ℕ → List ℕ → ℕ → ℕ → OpenAnswer
 open_answer lent book E T =
     cond (limits_fit E T) (cond (ltb lent (formula E T)) (o.Refused 9 0) (opened_by (read_book book))) (o.Refused 8 0)
 
--- "A refusal returns its number and a place .. otherwise 0": of the book's refusals alone the place is another
-
 -- "10"; else readings, tokens, complete matches
 unfoldable pub counts_answer : List ℕ → CountsAnswer
-counts_answer room = cond (broken room) (c.Refused 10 0) (c.Counted (head_number room 2) (head_number room 3) (complete_of room))
-
--- "complete matches that appeared or vanished": by an addition those that appeared, by a removal those that vanished; without negated conditions there are no others
-unfoldable pub changed : Step → ℕ → ℕ → ℕ
-changed (add w) appeared vanished = appeared
-changed (remove w) appeared vanished = vanished
+counts_answer room = cond (broken room) (c.Refused 10) (c.Counted (head_number room 2) (head_number room 3) (complete_of room))
 
 -- the answer of a step on values, as the call gives it
-unfoldable pub step_answer : Step → Answer → StepAnswer
-step_answer x (step.accepted readings tokens appeared vanished) = s.Accepted readings tokens (changed x appeared vanished)
-step_answer x (step.refused number) = s.Refused number 0
+unfoldable pub step_answer : Answer → StepAnswer
+step_answer (step.accepted readings tokens changed) = s.Accepted readings tokens changed
+step_answer (step.refused number) = s.Refused number
 
 -- "Addition: 10, 11, 13, 14. Removal: 10, 12.": what a room that is not broken may be refused with
 unfoldable pub refusals : Step → List ℕ
@@ -56,18 +48,18 @@ refusals (remove w) = 12 ∷ []
 
 -- a complaint as a line: the number of its rule, its readings, the rule's wording
 unfoldable pub complaint_line : Matched → List ℕ
-complaint_line m = line_text m.rule.number (readings_of m.entries) m.rule.wording
+complaint_line m = line_text m.rule.number m.readings m.rule.wording
 
 -- complaint k of a list; what stands for it where there is none is asked for nowhere
 abbrev pub complaint_at : List Matched → ℕ → Matched
-complaint_at list k = get_or list k (record { rule = no_rule; entries = [] })
+complaint_at list k = get_or list k (record { rule = no_rule; readings = [] })
 
 -- "Line: 10, 16, 15.": of a list of complaints, and a buffer
 unfoldable pub line_answer : List Matched → ℕ → List ℕ → LineAnswer
 line_answer list k buffer =
     cond (ltb k (length list))
-    (cond (ltb (length buffer) (length (complaint_line (complaint_at list k)))) (l.Refused 15 0) (l.Written (length (complaint_line (complaint_at list k)))))
-    (l.Refused 16 0)
+    (cond (ltb (length buffer) (length (complaint_line (complaint_at list k)))) (l.Refused 15) (l.Written (length (complaint_line (complaint_at list k)))))
+    (l.Refused 16)
 
 -- the buffer after it: the line at its front, and what stood behind it; as it was where the line is refused
 unfoldable pub line_buffer : List Matched → ℕ → List ℕ → List ℕ

@@ -3,7 +3,7 @@ use Rattle.std.specs.Prelude.{◌≡◌, ℕ, ◌≤◌, Bool, true, false, ◌�
 use mathlib.Core.List.{List, [], ◌∷◌, Memᴰ}
 use Rattle.book.specs.Rules.{Rule}
 use Rattle.book.specs.Read.{read_book, accepted}
-use Rattle.book.specs.Wording.{Worded, wording_place, refusal_in}
+use Rattle.book.specs.Wording.{rule_wording, wording_place, refusal_in}
 use Rattle.book.specs.declared.rules.Refusal.{Refusal}
 use Rattle.matching.specs.Complaints.{book_count, complaints}
 use Rattle.matching.specs.Step.{Step, stepped, add, remove}
@@ -39,10 +39,10 @@ pub record Counts (room : List ℕ) (answer : CountsAnswer) : Type 0 where
 -- a step: 10 exactly for a broken room; a refusal changes no byte, and nothing past the formula ever changes; of a sound room the answer is that of the step on
 -- values, and what is left is a sound room that holds the next state
 pub record Steps (room : List ℕ) (step : Step) (answer : StepAnswer) (room' : List ℕ) : Type 0 where
-  pub refused_10 : broken room ≡ true → answer ≡ a.Refused 10 0
-  pub numbered : (number place : ℕ) → broken room ≡ false → answer ≡ a.Refused number place → Memᴰ number (refusals step) × (place ≡ 0)
-  pub untouched : (number place : ℕ) → answer ≡ a.Refused number place → room' ≡ room
-  pub answered : (s : Sound room) → answer ≡ step_answer step (stepped (state_of room s) step).answer
+  pub refused_10 : broken room ≡ true → answer ≡ a.Refused 10
+  pub numbered : (number : ℕ) → broken room ≡ false → answer ≡ a.Refused number → Memᴰ number (refusals step)
+  pub untouched : (number : ℕ) → answer ≡ a.Refused number → room' ≡ room
+  pub answered : (s : Sound room) → answer ≡ step_answer (stepped (state_of room s) step).answer
   pub sound : Sound room → Sound room'
   pub holds : (s : Sound room) → held room' ≡ held_of (held room).book s.rules (held room).E (held room).T (stepped (state_of room s) step).next.readings
   pub past : drop (formula (head_number room 0) (limit room)) room' ≡ drop (formula (head_number room 0) (limit room)) room
@@ -57,18 +57,18 @@ Removes room w answer room' = Steps room (remove w) answer room'
 -- a line: 10 exactly for a broken room, then 16, 15; a refusal changes no byte of the buffer, and bytes after the newline stay; no line has more than 230 bytes.
 -- Of a sound room it is complaint k of the definition's list
 pub record Lines (room : List ℕ) (k : ℕ) (buffer : List ℕ) (answer : LineAnswer) (buffer' : List ℕ) : Type 0 where
-  pub refused_10 : broken room ≡ true → answer ≡ l.Refused 10 0
-  pub numbered : (number place : ℕ) → broken room ≡ false → answer ≡ l.Refused number place → Memᴰ number (16 ∷ 15 ∷ []) × (place ≡ 0)
-  pub untouched : (number place : ℕ) → answer ≡ l.Refused number place → buffer' ≡ buffer
+  pub refused_10 : broken room ≡ true → answer ≡ l.Refused 10
+  pub numbered : (number : ℕ) → broken room ≡ false → answer ≡ l.Refused number → Memᴰ number (16 ∷ 15 ∷ [])
+  pub untouched : (number : ℕ) → answer ≡ l.Refused number → buffer' ≡ buffer
   pub answered : (s : Sound room) → answer ≡ line_answer (complaints s.rules (held room).readings) k buffer
   pub wrote : (s : Sound room) → buffer' ≡ line_buffer (complaints s.rules (held room).readings) k buffer
   pub most : (n : ℕ) → answer ≡ l.Written n → (n ≤ 230) × (n ≤ length buffer)
   pub after : (n : ℕ) → answer ≡ l.Written n → drop n buffer' ≡ drop n buffer
   pub long : length buffer' ≡ length buffer
 
--- the wording of a rule by its number, as the part of the book that it is, at its offset; an empty part where there is none
-abbrev pub Words : List ℕ → ℕ × ℕ → ℕ → List ℕ → ℕ × ℕ → Type 0
-Words book lent number bytes part = Worded book lent number bytes part
+-- the wording of a rule by its number, as the part of the book that it is; an empty part where there is none
+pub record Words (book : List ℕ) (number : ℕ) (part : List ℕ) : Type 0 where
+  pub answered : part ≡ rule_wording (read_book book) number
 
 -- why there is none: the book's refusal, then 17; zeros where there is one
 pub record Refuses (book : List ℕ) (number : ℕ) (answer : Refusal) : Type 0 where

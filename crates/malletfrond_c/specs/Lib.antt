@@ -1,3 +1,2 @@
 pub mod Exported
 pub mod Told
-pub mod Writing

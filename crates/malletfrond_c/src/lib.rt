@@ -1,42 +1,31 @@
-// The public calls for programs in C and Rust: numbers and slices only. Each answers a refusal's number, 0 for accepted. Accepted, it writes its results through the
-// numbers lent for them; refused, it writes the refusal's place; what is not written stays as it was.
-ghost use Rattle.std.specs.Prelude.{[], ◌∷◌};
+// The public calls for programs in C and Rust: numbers and slices only. Each answers a refusal's number, 0 for accepted, and writes its results through numbers lent
+// to it; a result that is not there leaves the number lent for it as it was.
 ghost use Rattle.matching.specs.Step.{add, remove};
 ghost use Rattle.malletfrond.specs.Promise.{Checks};
 ghost use Rattle.malletfrond_c.specs.Exported.{OpensOut, StepsOut, CountsOut, LinesOut, WordsOut};
-ghost use Rattle.malletfrond_c.specs.Told.{Tells, step_told};
-
-mod writing;
+ghost use Rattle.malletfrond_c.specs.Told.{Told};
 
 use book::rules::WordingPlace;
 use malletfrond::{CountsAnswer, LineAnswer, OpenAnswer, StepAnswer};
 
-// `malletfrond::open`: three zeros where it is accepted.
+// `malletfrond::open`; the place of a refusal through `place`.
 #[unsafe(no_mangle)]
 pub extern "C" fn malletfrond_open(
     room: &mut [u8],
     book: &[u8],
     e: u64,
     t: u64,
-    readings: &mut u64,
-    tokens: &mut u64,
-    complete: &mut u64,
     place: &mut u64,
 ) -> u64
-    ensures { OpensOut room.old book.now e t (readings.old ∷ tokens.old ∷ complete.old ∷ []) place.old result (readings.new ∷ tokens.new ∷ complete.new ∷ []) place.new room.new }
+    ensures { OpensOut room.old book.now e t place.old result place.new room.new }
 {
     let answer = malletfrond::open(room, book, e, t);
     match answer {
         OpenAnswer::Opened {
-            readings: none,
-            tokens: empty,
-            complete: clean,
-        } => {
-            *readings = none as u64;
-            *tokens = empty as u64;
-            *complete = clean as u64;
-            0
-        }
+            readings: _,
+            tokens: _,
+            complete: _,
+        } => 0,
         OpenAnswer::Refused { number, place: at } => {
             *place = at as u64;
             number as u64
@@ -44,31 +33,22 @@ pub extern "C" fn malletfrond_open(
     }
 }
 
-// What a step answered, through four numbers.
-fn told(
-    answer: StepAnswer,
-    readings: &mut u64,
-    tokens: &mut u64,
-    changed: &mut u64,
-    place: &mut u64,
-) -> u64
-    ensures { Tells (step_told answer) (readings.old ∷ tokens.old ∷ changed.old ∷ []) place.old result (readings.new ∷ tokens.new ∷ changed.new ∷ []) place.new }
+// What a step answered, through three numbers.
+fn told(answer: StepAnswer, readings: &mut u64, tokens: &mut u64, changed: &mut u64) -> u64
+    ensures { Told answer readings.old tokens.old changed.old result readings.new tokens.new changed.new }
 {
     match answer {
         StepAnswer::Accepted {
-            readings: present,
-            tokens: held,
-            changed: moved,
+            readings: n,
+            tokens: t,
+            changed: c,
         } => {
-            *readings = present as u64;
-            *tokens = held as u64;
-            *changed = moved as u64;
+            *readings = n as u64;
+            *tokens = t as u64;
+            *changed = c as u64;
             0
         }
-        StepAnswer::Refused { number, place: at } => {
-            *place = at as u64;
-            number as u64
-        }
+        StepAnswer::Refused { number } => number as u64,
     }
 }
 
@@ -82,12 +62,11 @@ pub extern "C" fn malletfrond_add(
     readings: &mut u64,
     tokens: &mut u64,
     appeared: &mut u64,
-    place: &mut u64,
 ) -> u64
-    ensures { StepsOut room.old (add (record { line = line; column = column; value = value })) (readings.old ∷ tokens.old ∷ appeared.old ∷ []) place.old result (readings.new ∷ tokens.new ∷ appeared.new ∷ []) place.new room.new }
+    ensures { StepsOut room.old (add (record { line = line; column = column; value = value })) readings.old tokens.old appeared.old result readings.new tokens.new appeared.new room.new }
 {
     let answer = malletfrond::add(room, line, column, value);
-    told(answer, readings, tokens, appeared, place)
+    told(answer, readings, tokens, appeared)
 }
 
 // `malletfrond::remove`.
@@ -100,12 +79,11 @@ pub extern "C" fn malletfrond_remove(
     readings: &mut u64,
     tokens: &mut u64,
     vanished: &mut u64,
-    place: &mut u64,
 ) -> u64
-    ensures { StepsOut room.old (remove (record { line = line; column = column; value = value })) (readings.old ∷ tokens.old ∷ vanished.old ∷ []) place.old result (readings.new ∷ tokens.new ∷ vanished.new ∷ []) place.new room.new }
+    ensures { StepsOut room.old (remove (record { line = line; column = column; value = value })) readings.old tokens.old vanished.old result readings.new tokens.new vanished.new room.new }
 {
     let answer = malletfrond::remove(room, line, column, value);
-    told(answer, readings, tokens, vanished, place)
+    told(answer, readings, tokens, vanished)
 }
 
 // `malletfrond::counts`.
@@ -115,39 +93,29 @@ pub extern "C" fn malletfrond_counts(
     readings: &mut u64,
     tokens: &mut u64,
     complete: &mut u64,
-    place: &mut u64,
 ) -> u64
-    ensures { CountsOut room.now (readings.old ∷ tokens.old ∷ complete.old ∷ []) place.old result (readings.new ∷ tokens.new ∷ complete.new ∷ []) place.new }
+    ensures { CountsOut room.now readings.old tokens.old complete.old result readings.new tokens.new complete.new }
 {
     let answer = malletfrond::counts(room);
     match answer {
         CountsAnswer::Counted {
-            readings: r,
+            readings: n,
             tokens: t,
-            complete: m,
+            complete: c,
         } => {
-            *readings = r as u64;
+            *readings = n as u64;
             *tokens = t as u64;
-            *complete = m as u64;
+            *complete = c as u64;
             0
         }
-        CountsAnswer::Refused { number, place: at } => {
-            *place = at as u64;
-            number as u64
-        }
+        CountsAnswer::Refused { number } => number as u64,
     }
 }
 
 // `malletfrond::line`; the length of the line through `length`.
 #[unsafe(no_mangle)]
-pub extern "C" fn malletfrond_line(
-    room: &[u8],
-    k: u64,
-    buffer: &mut [u8],
-    length: &mut u64,
-    place: &mut u64,
-) -> u64
-    ensures { LinesOut room.now k buffer.old (length.old ∷ []) place.old result (length.new ∷ []) place.new buffer.new }
+pub extern "C" fn malletfrond_line(room: &[u8], k: u64, buffer: &mut [u8], length: &mut u64) -> u64
+    ensures { LinesOut room.now k buffer.old length.old result length.new buffer.new }
 {
     let answer = malletfrond::line(room, k, buffer);
     match answer {
@@ -155,27 +123,19 @@ pub extern "C" fn malletfrond_line(
             *length = n as u64;
             0
         }
-        LineAnswer::Refused { number, place: at } => {
-            *place = at as u64;
-            number as u64
-        }
+        LineAnswer::Refused { number } => number as u64,
     }
 }
 
-// `malletfrond::wording` and its refusal: the offset of the 24 bytes in the book through `offset`.
+// `malletfrond::wording` and its refusal: the offset of the 24 bytes in the book, or the place of a refusal, through `place`.
 #[unsafe(no_mangle)]
-pub extern "C" fn malletfrond_wording(
-    book: &[u8],
-    number: u64,
-    offset: &mut u64,
-    place: &mut u64,
-) -> u64
-    ensures { WordsOut book.now number (offset.old ∷ []) place.old result (offset.new ∷ []) place.new }
+pub extern "C" fn malletfrond_wording(book: &[u8], number: u64, place: &mut u64) -> u64
+    ensures { WordsOut book.now number result place.new }
 {
     let found = book::rules::wording_place(book, number);
     match found {
-        WordingPlace::At(from) => {
-            *offset = from as u64;
+        WordingPlace::At(offset) => {
+            *place = offset as u64;
             0
         }
         WordingPlace::Refused {

@@ -13,8 +13,7 @@ use Rattle.book.specs.Stands.{conditions_of}
 use Rattle.reading.specs.declared.Reading.{Reading}
 use Rattle.matching.specs.Lists.{concat_map, keep}
 use Rattle.matching.specs.Passes.{alpha, joins}
-use Rattle.matching.specs.Complaints.{levels, tests_of, memory, memories_from, memories}
-use Rattle.matching.specs.Plain.{pass_of}
+use Rattle.matching.specs.Complaints.{levels, tests_of, pass_of, memory, memories_from, memories}
 use Rattle.matching.proofs.Laws.Alpha.{passes_all_split, get_or-memories_from}
 use Rattle.room.specs.Held.{sifted}
 use Rattle.room.specs.Parts.{below}
@@ -25,7 +24,7 @@ use Rattle.sound.proofs.TokensBuilt.{Agrees}
 
 -- ---- how many memories there are
 
-pub length-memories_from : (c : ℕ) (conditions : List (List Test)) (R : List Reading) → length (memories_from c conditions R) ≡ length conditions
+length-memories_from : (c : ℕ) (conditions : List (List Test)) (R : List Reading) → length (memories_from c conditions R) ≡ length conditions
 unfolding memories_from
 length-memories_from c [] R = refl
 length-memories_from c (tests ∷ conditions) R = rw (length-memories_from (suc c) conditions R)

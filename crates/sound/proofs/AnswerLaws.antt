@@ -11,7 +11,7 @@ use Rattle.reading.specs.Reading.{is_less, is_same}
 use Rattle.matching.specs.Complaints.{complaints, involves}
 use Rattle.matching.specs.Order.{inserted, without}
 use Rattle.matching.specs.Step.{not_among}
-use Rattle.matching.proofs.Laws.Plain.{complaints-vanish, complaints-without}
+use Rattle.matching.proofs.Laws.Complaints.{complaints-vanish, complaints-without}
 use Rattle.matching.proofs.Laws.Lists.{length-keep}
 use Rattle.matching.proofs.Laws.Orders.{without-inserted}
 use Rattle.matching.proofs.Laws.ReadingOrder.{is_same-exact}

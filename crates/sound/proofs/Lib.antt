@@ -2,13 +2,10 @@ pub mod Adding
 pub mod Agree
 pub mod AnswerLaws
 pub mod Entries
-pub mod Laid
 pub mod Levels
-pub mod MatchesLaws
 pub mod Next
 pub mod NoReadings
 pub mod Once
-pub mod PlainHeld
 pub mod Ranks
 pub mod ReadBack
 pub mod Removing

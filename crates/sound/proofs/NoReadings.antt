@@ -10,26 +10,30 @@ use Rattle.book.specs.declared.record.Test.{Test}
 use Rattle.book.specs.Rules.{Rule, condition_count}
 use Rattle.book.specs.Limits.{All}
 use Rattle.matching.specs.Lists.{concat_map, keep}
-use Rattle.matching.specs.Complaints.{memory, memories_from, memories, book_count, rule_matches}
+use Rattle.matching.specs.Match.{token_count}
+use Rattle.matching.specs.Complaints.{levels, pass_of, memory, memories_from, memories, book_count, rule_complaints}
 use Rattle.matching.proofs.Laws.Steps.{book_count-none}
-use Rattle.sound.specs.Sound.{ends_of, completes_of}
-use Rattle.sound.proofs.PlainHeld.{tokens_held, length-tokens_held}
-use Rattle.sound.proofs.SoundLaws.{complaints-within}
+use Rattle.sound.specs.Sound.{tokens_held, ends_of, completes_of}
+use Rattle.sound.proofs.SoundLaws.{length-tokens_held, complaints-within}
 
 -- ---- tokens and complete matches
+
+token_count-none : (rule : Rule) → token_count [] (pass_of rule) (levels rule) ≡ 0
+unfolding book_count
+token_count-none rule = omega (arith, book_count-none (rule ∷ []))
 
 pub ends_of-none : (at : ℕ) (rules : List Rule) → ends_of at rules [] ≡ replicate (length rules) at
 unfolding ends_of
 ends_of-none at [] = refl
 ends_of-none at (rule ∷ rules) =
-    let e : at + book_count (rule ∷ []) [] ≡ at = omega (arith, book_count-none (rule ∷ [])) in
+    let e : at + token_count [] (pass_of rule) (levels rule) ≡ at = omega (arith, token_count-none rule) in
     rw e (ap (λ (l : List ℕ). at ∷ l) (ends_of-none at rules))
 
 pub completes_of-none : (at : ℕ) (rules : List Rule) → All (λ rule. 0 < length rule.conditions) rules → completes_of at rules [] ≡ replicate (length rules) at
 unfolding completes_of
 completes_of-none at [] s = refl
 completes_of-none at (rule ∷ rules) s =
-    let e : at + length (rule_matches rule []) ≡ at = omega (arith, book_count-none (rule ∷ []), complaints-within rule [] s.0) in
+    let e : at + length (rule_complaints rule []) ≡ at = omega (arith, token_count-none rule, complaints-within rule [] s.0) in
     rw e (ap (λ (l : List ℕ). at ∷ l) (completes_of-none at rules s.1))
 
 no_element : {A : Type 0} (l : List A) → length l ≡ 0 → l ≡ []

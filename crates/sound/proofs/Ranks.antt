@@ -14,7 +14,7 @@ use lib.Seq.{length-take-le, get_or-take}
 use Rattle.reading.specs.declared.Reading.{Reading}
 use Rattle.reading.specs.Reading.{is_less, is_same, reading_at}
 use Rattle.matching.specs.Order.{Less, Sorted, first, Each, inserted}
-use Rattle.matching.specs.Lists.{has}
+use Rattle.matching.specs.Preorder.{has}
 use Rattle.matching.specs.Step.{present}
 use Rattle.matching.proofs.Laws.Members.{mem_same}
 use Rattle.matching.proofs.Laws.Orders.{inserted-at}

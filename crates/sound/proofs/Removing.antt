@@ -16,10 +16,10 @@ use Rattle.reading.specs.declared.Reading.{Reading}
 use Rattle.reading.specs.Reading.{is_less, is_same}
 use Rattle.matching.specs.Complaints.{book_count}
 use Rattle.matching.specs.Order.{Less, Sorted, without}
+use Rattle.matching.proofs.Laws.Complaints.{book_count-without}
 use Rattle.matching.proofs.Laws.Lists.{omit-one}
 use Rattle.matching.proofs.Laws.Members.{mem_keep}
 use Rattle.matching.proofs.Laws.Orders.{without-split, without_sorted}
-use Rattle.matching.proofs.Laws.Plain.{book_count-without}
 use Rattle.matching.proofs.Laws.ReadingOrder.{is_less-order, is_same-exact}
 use Rattle.room.specs.Parts.{twos}
 use Rattle.room.specs.Layout.{head_number, limit, parts, completesPart, orderPart, slotsPart, rowsPart, nodesPart, lastsPart}

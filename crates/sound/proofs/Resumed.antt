@@ -14,7 +14,8 @@ use Rattle.book.specs.Rules.{Rule, condition_count}
 use Rattle.book.proofs.Growth.{length-rule_places}
 use Rattle.reading.specs.declared.Reading.{Reading}
 use Rattle.reading.specs.Reading.{reading_at}
-use Rattle.matching.specs.Complaints.{book_tokens, rule_matches, book_count, complaints, memories}
+use Rattle.matching.specs.Match.{token_count}
+use Rattle.matching.specs.Complaints.{levels, pass_of, rule_complaints, book_count, complaints, memories}
 use Rattle.room.specs.Parts.{part, cut, twos, twos_bytes}
 use Rattle.room.specs.Layout.{widths, head_number, limit, parts, head, conditionPlacesPart, rulePlacesPart, ruleConditionsPart, endsPart, completesPart, nodesPart, lastsPart}
 use Rattle.room.specs.Broken.{sum, broken}
@@ -28,10 +29,9 @@ use Rattle.room.proofs.Written.{counted-readings, counted-tokens, counted-before
 use Rattle.weave.specs.Built.{nodes, lasts}
 use Rattle.rete.specs.Rules.{rules_built}
 use Rattle.checking.proofs.Fronts.{twos_front}
-use Rattle.sound.specs.Sound.{Sound, as_held, held_of, ends_of, completes_of}
+use Rattle.sound.specs.Sound.{Sound, held_of, tokens_held, ends_of, completes_of}
 use Rattle.sound.proofs.Agree.{pass_slot, bits-agree}
 use Rattle.sound.proofs.Next.{Next, slots_next}
-use Rattle.sound.proofs.PlainHeld.{tokens_held, tokens_plain, book_count-first}
 use Rattle.sound.proofs.RoomBuilt.{room-memories, room-tokens}
 use Rattle.sound.proofs.SoundLaws.{held_ext, held-sound, complaints-within}
 use Rattle.sound.proofs.SoundRoom.{testsIn, nodes-long, lasts-long, countsOf, sound-kept, sound-tests, sound-counts}
@@ -56,25 +56,25 @@ stored-planes (t ∷ l) = ap (λ (m : List Stored). t ∷ m) (stored-planes l)
 length-ends_of : (at : ℕ) (rules : List Rule) (R : List Reading) → length (ends_of at rules R) ≡ length rules
 unfolding ends_of
 length-ends_of at [] R = refl
-length-ends_of at (rule ∷ rules) R = ap suc (length-ends_of (at + book_count (rule ∷ []) R) rules R)
+length-ends_of at (rule ∷ rules) R = ap suc (length-ends_of (at + token_count R (pass_of rule) (levels rule)) rules R)
 
 length-completes_of : (at : ℕ) (rules : List Rule) (R : List Reading) → length (completes_of at rules R) ≡ length rules
 unfolding completes_of
 length-completes_of at [] R = refl
-length-completes_of at (rule ∷ rules) R = ap suc (length-completes_of (at + length (rule_matches rule R)) rules R)
+length-completes_of at (rule ∷ rules) R = ap suc (length-completes_of (at + length (rule_complaints rule R)) rules R)
 
 ends_of-most : (most at : ℕ) (rules : List Rule) (R : List Reading) → at + book_count rules R ≤ most → AtMost most (ends_of at rules R)
-unfolding ends_of
+unfolding ends_of book_count
 ends_of-most most at [] R h i = omega arith
-ends_of-most most at (rule ∷ rules) R h zero = omega (arith, book_count-first rule rules R)
-ends_of-most most at (rule ∷ rules) R h (suc i) = ends_of-most most (at + book_count (rule ∷ []) R) rules R (omega (arith, book_count-first rule rules R)) i
+ends_of-most most at (rule ∷ rules) R h zero = omega arith
+ends_of-most most at (rule ∷ rules) R h (suc i) = ends_of-most most (at + token_count R (pass_of rule) (levels rule)) rules R (omega arith) i
 
 completes_of-most : (most at : ℕ) (rules : List Rule) (R : List Reading) → Some rules → at + book_count rules R ≤ most → AtMost most (completes_of at rules R)
-unfolding completes_of
+unfolding completes_of book_count
 completes_of-most most at [] R some h i = omega arith
-completes_of-most most at (rule ∷ rules) R some h zero = omega (arith, book_count-first rule rules R, complaints-within rule R some.0)
+completes_of-most most at (rule ∷ rules) R some h zero = omega (arith, complaints-within rule R some.0)
 completes_of-most most at (rule ∷ rules) R some h (suc i) =
-    completes_of-most most (at + length (rule_matches rule R)) rules R some.1 (omega (arith, book_count-first rule rules R, complaints-within rule R some.0)) i
+    completes_of-most most (at + length (rule_complaints rule R)) rules R some.1 (omega (arith, complaints-within rule R some.0)) i
 
 -- a table as it is written, over whatever stood there, and read back: only the numbers of the rules are read
 table_read : (n : ℕ) (was xs l : List ℕ) → xs ≡ spliced was 0 l → n ≡ length l → AtMost 8192 l → twos n (twos_bytes xs) ≡ l
@@ -253,9 +253,6 @@ module _ (room room' : List ℕ) (s : Sound room) (a : Aside) (slots rows : List
     unfolding stepped
     tokens-held = room-tokens room' os slots s.rules slots-here (part-here 8) pass counts-here stored_here agrees ∙ ap (tokens_held 0 s.rules) next.reads
 
-    tokens-here-held : (held room').tokens ≡ map as_held (book_tokens s.rules R)
-    tokens-here-held = tokens-held ∙ sym (tokens_plain s.rules R)
-
     pub next-holds : held room' ≡ held_of (held room).book s.rules (held room).E (held room).T R
     unfolding held held_of stepped
     next-holds =
@@ -270,7 +267,7 @@ module _ (room room' : List ℕ) (s : Sound room) (a : Aside) (slots rows : List
         completes-here
         (ap₂ (λ (sl l : List ℕ). map (reading_at sl) l) (part-here 8) slots-here ∙ next.reads)
         memories-here
-        tokens-here-held
+        tokens-held
 
     whole_here : Whole room'
     unfolding stepped

@@ -13,7 +13,7 @@ use Rattle.room.specs.Parts.{below}
 use Rattle.room.specs.Layout.{head_number, parts, ruleConditionsPart, slotsPart, rowsPart}
 use Rattle.room.specs.Held.{Stored, held, level, sifted, in_memory, stored_of, slots_of, tokens_from}
 use Rattle.rete.specs.Rules.{rules_built}
-use Rattle.sound.proofs.PlainHeld.{tokens_held}
+use Rattle.sound.specs.Sound.{tokens_held}
 use Rattle.sound.proofs.Agree.{Bits, memories-held}
 use Rattle.sound.proofs.Levels.{levelled_all}
 use Rattle.sound.proofs.Stored.{as_token}

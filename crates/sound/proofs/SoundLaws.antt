@@ -3,7 +3,7 @@
 use Prim.Native.Nat.{ℕ, zero, suc, ◌+◌, ◌*◌, ◌-◌, ◌≤◌}
 use mathlib.Core.Path.{◌≡◌, refl, sym, ap, ◌∙◌}
 use mathlib.Core.Bool.{false, cond}
-use mathlib.Core.List.{List, [], ◌∷◌, ◌++◌, map}
+use mathlib.Core.List.{List, [], ◌∷◌, ◌++◌}
 use native.Mathlib.Omega.{arith}
 use borrow.Author.Tests.{ne_eqb}
 use lib.Dec.{eqb}
@@ -16,48 +16,48 @@ use Rattle.book.specs.Rules.{Rule, last_or}
 use Rattle.book.specs.Read.{read_book, accepted}
 use Rattle.book.proofs.Lasts.{lastOr-snoc}
 use Rattle.matching.specs.Lists.{concat_map}
-use Rattle.matching.specs.Entry.{present}
-use Rattle.matching.specs.Plain.{matches, token_count, pass_of, rule_complaints}
+use Rattle.matching.specs.Match.{matches, token_count}
 use Rattle.matching.specs.Order.{Less, Sorted}
-use Rattle.matching.specs.Complaints.{levels, rule_matches, book_count, complaints}
-use Rattle.matching.proofs.Laws.Plain.{ruleMatches-plain}
+use Rattle.matching.specs.Complaints.{levels, pass_of, rule_complaints, book_count, complaints}
+use Rattle.matching.proofs.Laws.Tokens.{length-ruleTokens}
 use Rattle.room.specs.Parts.{twos}
 use Rattle.room.specs.Layout.{head_number, limit, parts, completesPart, orderPart, nodesPart, lastsPart}
 use Rattle.room.specs.Broken.{broken}
 use Rattle.room.specs.Held.{Stored, Held, Arranged, held, stored, tokens_from}
 use Rattle.room.proofs.BrokenLaws.{Whole, not-broken-whole}
 use Rattle.room.proofs.Put.{length_part}
-use Rattle.sound.specs.Sound.{Sound, held_of, completes_of}
-use Rattle.sound.proofs.PlainHeld.{tokens_plain, rule_count_plain, length-tokens_held}
+use Rattle.sound.specs.Sound.{Sound, held_of, rule_held, tokens_held, completes_of}
 use Rattle.room.specs.Held.{complete_of}
+
+-- ---- the tokens that should be held are as many as the token count says
+
+pub length-tokens_held : (base : ℕ) (rules : List Rule) (R : List Reading) → length (tokens_held base rules R) ≡ book_count rules R
+unfolding tokens_held rule_held book_count
+length-tokens_held base [] R = refl
+length-tokens_held base (rule ∷ rules) R = rw (length-append, length-map, length-ruleTokens rule R, length-tokens_held (base + levels rule) rules R)
 
 -- ---- the complete matches up to and with the last rule are all complaints
 
-pub length-complaints : (rule : Rule) (rules : List Rule) (R : List Reading) → length (complaints (rule ∷ rules) R) ≡ length (rule_matches rule R) + length (complaints rules R)
+length-complaints : (rule : Rule) (rules : List Rule) (R : List Reading) → length (complaints (rule ∷ rules) R) ≡ length (rule_complaints rule R) + length (complaints rules R)
 unfolding complaints concat_map
 length-complaints rule rules R = rw (length-append, length-map)
 
--- those of a rule are as many as its chain has
-pub length-rule_matches : (rule : Rule) (R : List Reading) → length (rule_matches rule R) ≡ length (rule_complaints rule R)
-length-rule_matches rule R = ap length (ruleMatches-plain rule R) ∙ length-map (rule_complaints rule R) (map present)
-
 -- complete matches are tokens
-pub complaints-within : (rule : Rule) (R : List Reading) → 1 ≤ levels rule → length (rule_matches rule R) ≤ book_count (rule ∷ []) R
+pub complaints-within : (rule : Rule) (R : List Reading) → 1 ≤ levels rule → length (rule_complaints rule R) ≤ token_count R (pass_of rule) (levels rule)
 unfolding rule_complaints token_count
-complaints-within rule R some = let h = by (levels rule) some in omega (arith, length-rule_matches rule R, rule_count_plain rule R)
-  where
-    by : (m : ℕ) → 1 ≤ m → length (matches R (pass_of rule) m) ≤ token_count R (pass_of rule) m
-    by zero h = absurd (omega arith)
-    by (suc m) h = omega arith
+complaints-within rule R = by (levels rule) where
+  by : (m : ℕ) → 1 ≤ m → length (matches R (pass_of rule) m) ≤ token_count R (pass_of rule) m
+  by zero h = absurd (omega arith)
+  by (suc m) h = omega arith
 
-pub no_complaints : (R : List Reading) → length (complaints [] R) ≡ 0
+no_complaints : (R : List Reading) → length (complaints [] R) ≡ 0
 unfolding complaints concat_map
 no_complaints R = refl
 
 pub last-completes_of : (at : ℕ) (rules : List Rule) (R : List Reading) → last_or at (completes_of at rules R) ≡ at + length (complaints rules R)
 unfolding completes_of last_or
 last-completes_of at [] R = omega (arith, no_complaints R)
-last-completes_of at (rule ∷ rules) R = omega (arith, last-completes_of (at + length (rule_matches rule R)) rules R, length-complaints rule rules R)
+last-completes_of at (rule ∷ rules) R = omega (arith, last-completes_of (at + length (rule_complaints rule R)) rules R, length-complaints rule rules R)
 
 -- ---- what a room counts is what it holds
 
@@ -131,7 +131,6 @@ module _ (room : List ℕ) (s : Sound room) where
   sound-tokens =
       sym (length-held-tokens room (not-broken-whole room s.whole))
       ∙ ap (λ (h : Held). length h.tokens) s.holds
-      ∙ ap length (tokens_plain s.rules (held room).readings)
       ∙ length-tokens_held 0 s.rules (held room).readings
 
   pub sound-complete : complete_of room ≡ length (complaints s.rules (held room).readings)

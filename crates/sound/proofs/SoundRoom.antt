@@ -29,11 +29,10 @@ use Rattle.room.proofs.TwosRead.{length-twos, get_or-twos}
 use Rattle.rete.specs.Rules.{rules_built, ends_built, completes_built, Stretches}
 use Rattle.weave.proofs.Planes.{length-stored}
 use Rattle.step.specs.Worked.{bookIn}
-use Rattle.sound.specs.Sound.{Sound, held_of}
+use Rattle.sound.specs.Sound.{Sound, held_of, tokens_held}
 use Rattle.sound.proofs.Agree.{memoryAt, pass_slot, Bits, memories-bits, bits-agree}
 use Rattle.sound.proofs.Entries.{Entries, entries-map}
 use Rattle.sound.proofs.Levels.{levelled_all}
-use Rattle.sound.proofs.PlainHeld.{tokens_held, tokens_plain}
 use Rattle.sound.proofs.Slots.{Distinct, read-injective}
 use Rattle.sound.proofs.Stored.{as_token, as_token_injective, tokens-injective}
 use Rattle.sound.proofs.Stretches.{stored-used, stretches-built}
@@ -109,7 +108,7 @@ module _ (room : List ℕ) where
         let os : List ℕ = slots_of room in
         let n : ℕ = head_number room 3 in
         let holds : map as_token (tokens_from (level (take (head_number room 5) (ruleConditionsPart (parts room)))) readIn [] (stored_of room)) ≡ tokens_held 0 s.rules (map readIn os) =
-        ap (λ (h : Held). h.tokens) s.holds ∙ tokens_plain s.rules (map readIn os) in
+        ap (λ (h : Held). h.tokens) s.holds in
         let here : map as_token (tokens_from (level countsOf) readIn [] (stored_of room)) ≡ tokens_held 0 s.rules (map readIn os) =
         ap (λ (ks : List ℕ). map as_token (tokens_from (level ks) readIn [] (stored_of room))) (sym sound-counts) ∙ holds in
         let made : map as_token (tokens_from (level countsOf) readIn [] (rules_built os readIn passIn 0 countsOf)) ≡ tokens_held 0 s.rules (map readIn os) =

@@ -14,13 +14,13 @@ use lib.ListN.{length, length-append, length-map}
 use Rattle.book.specs.Rules.{Rule}
 use Rattle.book.specs.Limits.{All}
 use Rattle.reading.specs.declared.Reading.{Reading}
-use Rattle.matching.specs.Lists.{keep}
-use Rattle.matching.specs.Plain.{of_length, pass_of, rule_tokens, rule_complaints}
-use Rattle.matching.specs.Complaints.{levels, rule_matches, book_count, complaints}
+use Rattle.matching.specs.Lists.{concat_map, keep}
+use Rattle.matching.specs.Match.{token_count}
+use Rattle.matching.specs.Preorder.{of_length}
+use Rattle.matching.specs.Complaints.{levels, pass_of, rule_tokens, rule_complaints, book_count, complaints, matched_by}
 use Rattle.matching.proofs.Laws.Lists.{keep-map, keep-ext}
-use Rattle.matching.proofs.Laws.Chains.{mem_forest}
-use Rattle.matching.proofs.Laws.Members.{mem_when, mem_concat_map}
-use Rattle.matching.proofs.Laws.Plain.{length-ruleTokens, ruleTokens-complaints, book_count-empty}
+use Rattle.matching.proofs.Laws.Members.{mem_when, mem_concat_map, mem_forest}
+use Rattle.matching.proofs.Laws.Tokens.{length-ruleTokens, ruleTokens-complaints}
 use Rattle.room.specs.Held.{Stored, tokens_from}
 use Rattle.room.proofs.BrokenLaws.{agreed}
 use Rattle.weave.specs.Built.{built, stem, branch, nodes}
@@ -28,10 +28,8 @@ use Rattle.weave.specs.Blocks.{times_of}
 use Rattle.rete.specs.Rules.{rules_built, ends_built, completes_built, complete_built}
 use Rattle.rete.proofs.Decode.{decoded, Reads, reads-built, at_node, decoded-forest}
 use Rattle.checking.proofs.Extent.{built-ext}
-use Rattle.sound.specs.Sound.{ends_of, completes_of}
+use Rattle.sound.specs.Sound.{rule_held, tokens_held, ends_of, completes_of}
 use Rattle.sound.proofs.Levels.{Levelled, levelled-here, levelled-past}
-use Rattle.sound.proofs.PlainHeld.{rule_held, tokens_held, rule_count_plain, book_count-first}
-use Rattle.sound.proofs.SoundLaws.{length-complaints, no_complaints, length-rule_matches}
 use Rattle.sound.proofs.Stored.{Used, as_token, length-tokens_from, nodes-tokensFrom}
 
 -- every rule has a condition
@@ -79,10 +77,10 @@ module _ (os : List ℕ) (read : ℕ → Reading) (pass : ℕ → List Reading �
         let r = built-reads (λ n. n - c) (λ j b. omega arith) [] refl in
         ap (tokens_from (λ n. n - c) read []) (sym (append-nil (built os read pass (levels rule) c []))) ∙ r.reads [] ∙ append-nil (map (at_node c) (rule_tokens rule (map read os)))
 
-    pub length-built : length (built os read pass (levels rule) c []) ≡ book_count (rule ∷ []) (map read os)
+    pub length-built : length (built os read pass (levels rule) c []) ≡ token_count (map read os) (pass_of rule) (levels rule)
     length-built =
         sym (length-tokens_from (λ n. n - c) read [] (built os read pass (levels rule) c [])) ∙ ap length built-tokens
-        ∙ length-map (rule_tokens rule (map read os)) (at_node c) ∙ length-ruleTokens rule (map read os) ∙ sym (rule_count_plain rule (map read os))
+        ∙ length-map (rule_tokens rule (map read os)) (at_node c) ∙ length-ruleTokens rule (map read os)
 
     -- a token at the rule's last node is a complete match
     pub full-built : 1 ≤ levels rule → keep (λ t. eqb t.0 (c + levels rule - 1)) (tokens_from (λ n. n - c) read [] (built os read pass (levels rule) c []))
@@ -104,13 +102,13 @@ module _ (os : List ℕ) (read : ℕ → Reading) (pass : ℕ → List Reading �
             )
 
     -- so they are as many
-    pub complete-built : 1 ≤ levels rule → times_of (c + levels rule - 1) (nodes (built os read pass (levels rule) c [])) ≡ length (rule_matches rule (map read os))
+    pub complete-built : 1 ≤ levels rule → times_of (c + levels rule - 1) (nodes (built os read pass (levels rule) c [])) ≡ length (rule_complaints rule (map read os))
     complete-built some =
         let last : ℕ = c + levels rule - 1 in
         let tokens : List (ℕ × List Reading) = tokens_from (λ n. n - c) read [] (built os read pass (levels rule) c []) in
         ap (times_of last) (sym (nodes-tokensFrom (λ n. n - c) read [] (built os read pass (levels rule) c [])))
         ∙ ap length (keep-map (λ x. eqb x last) (λ t. t.0) tokens) ∙ length-map (keep (λ t. eqb t.0 last) tokens) (λ t. t.0)
-        ∙ ap length (full-built some) ∙ length-map (rule_complaints rule (map read os)) (at_node c) ∙ sym (length-rule_matches rule (map read os))
+        ∙ ap length (full-built some) ∙ length-map (rule_complaints rule (map read os)) (at_node c)
 
   -- ---- the tokens of all rules
 
@@ -127,30 +125,31 @@ module _ (os : List ℕ) (read : ℕ → Reading) (pass : ℕ → List Reading �
       (rulesBuilt-tokens of (c + levels rule) rules r.last (levelled-past of c (levels rule) (map levels rules) v) a.1)
 
   pub length-rulesBuilt : (c : ℕ) (rules : List Rule) → Agrees c rules → length (rules_built os read pass c (map levels rules)) ≡ book_count rules (map read os)
-  unfolding rules_built
-  length-rulesBuilt c [] a = sym (book_count-empty (map read os))
+  unfolding rules_built book_count
+  length-rulesBuilt c [] a = refl
   length-rulesBuilt c (rule ∷ rules) a =
       length-append (built os read pass (levels rule) c []) (rules_built os read pass (c + levels rule) (map levels rules))
-      ∙ ap₂ ◌+◌ (length-built c rule a.0) (length-rulesBuilt (c + levels rule) rules a.1) ∙ sym (book_count-first rule rules (map read os))
+      ∙ ap₂ ◌+◌ (length-built c rule a.0) (length-rulesBuilt (c + levels rule) rules a.1)
 
   pub endsBuilt-of : (o c : ℕ) (rules : List Rule) → Agrees c rules → ends_built os read pass o c (map levels rules) ≡ ends_of o rules (map read os)
   unfolding ends_built ends_of
   endsBuilt-of o c [] a = refl
   endsBuilt-of o c (rule ∷ rules) a =
-      rw (length-built c rule a.0, endsBuilt-of (o + book_count (rule ∷ []) (map read os)) (c + levels rule) rules a.1)
+      rw (length-built c rule a.0, endsBuilt-of (o + token_count (map read os) (pass_of rule) (levels rule)) (c + levels rule) rules a.1)
 
   pub completesBuilt-of : (m c : ℕ) (rules : List Rule) → Some rules → Agrees c rules → completes_built os read pass m c (map levels rules) ≡ completes_of m rules (map read os)
   unfolding completes_built completes_of
   completesBuilt-of m c [] k a = refl
   completesBuilt-of m c (rule ∷ rules) k a =
-      let here : times_of (c + levels rule - 1) (nodes (built os read pass (levels rule) c [])) ≡ length (rule_matches rule (map read os)) = complete-built c rule a.0 k.0 in
-      rw (here, completesBuilt-of (m + length (rule_matches rule (map read os))) (c + levels rule) rules k.1 a.1)
+      let here : times_of (c + levels rule - 1) (nodes (built os read pass (levels rule) c [])) ≡ length (rule_complaints rule (map read os)) = complete-built c rule a.0 k.0 in
+      rw (here, completesBuilt-of (m + length (rule_complaints rule (map read os))) (c + levels rule) rules k.1 a.1)
 
   pub completeBuilt-of : (c : ℕ) (rules : List Rule) → Some rules → Agrees c rules → complete_built os read pass c (map levels rules) ≡ length (complaints rules (map read os))
-  unfolding complete_built
-  completeBuilt-of c [] k a = sym (no_complaints (map read os))
+  unfolding complete_built complaints concat_map
+  completeBuilt-of c [] k a = refl
   completeBuilt-of c (rule ∷ rules) k a =
-      ap₂ ◌+◌ (complete-built c rule a.0 k.0) (completeBuilt-of (c + levels rule) rules k.1 a.1) ∙ sym (length-complaints rule rules (map read os))
+      ap₂ ◌+◌ (complete-built c rule a.0 k.0 ∙ sym (length-map (rule_complaints rule (map read os)) (matched_by rule))) (completeBuilt-of (c + levels rule) rules k.1 a.1)
+      ∙ sym (length-append (map (matched_by rule) (rule_complaints rule (map read os))) (complaints rules (map read os)))
 
   -- ---- all end in the slots that were offered
 

@@ -1,8 +1,6 @@
 -- `malletfrond_c::malletfrond_counts` meets its contract: `counts` keeps its promise, and each arm tells its case of the answer. Assumes nothing.
-use mathlib.Core.Path.{ap}
 use borrow.Author.Rules.{rules}
-use Rattle.malletfrond_c.proofs.Exported.{tells-results, tells-refusal}
-use Rattle.malletfrond_c.specs.Told.{counts_told}
+use Rattle.malletfrond_c.proofs.Exported.{counted, counts-refused}
 use Rattle.malletfrond_c.proofs.malletfrond_counts.Statement.{statement}
 use Rattle.malletfrond_c.proofs.malletfrond_counts.Tie as tie
 
@@ -19,12 +17,10 @@ cast_result : tie.Need-overflow-cast-result
 cast_result c = search rules
 
 returns : tie.Need-returns
-unfolding counts_told
-returns c = record { answer = _; counts = c.before.before.before.counts.ensures; tells = tells-results (ap counts_told c.before.answer.given.1) }
+returns c = counted c.before.before.before.counts.ensures _ _ _ c.before.answer.given.1
 
 returns_2 : tie.Need-returns-2
-unfolding counts_told
-returns_2 c = record { answer = _; counts = c.before.before.before.counts.ensures; tells = tells-refusal (ap counts_told c.before.answer2.given.1) }
+returns_2 c = counts-refused c.before.before.before.counts.ensures _ _ _ c.before.answer2.given.1
 
 pub malletfrond_counts_spec : {M : Type 1} → statement M
 malletfrond_counts_spec =

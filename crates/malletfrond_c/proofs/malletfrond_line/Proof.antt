@@ -1,8 +1,6 @@
 -- `malletfrond_c::malletfrond_line` meets its contract: `line` keeps its promise, and each arm tells its case of the answer. Assumes nothing.
-use mathlib.Core.Path.{ap}
 use borrow.Author.Rules.{rules}
-use Rattle.malletfrond_c.proofs.Exported.{tells-results, tells-refusal}
-use Rattle.malletfrond_c.specs.Told.{line_told}
+use Rattle.malletfrond_c.proofs.Exported.{line-written, line_refused}
 use Rattle.malletfrond_c.proofs.malletfrond_line.Statement.{statement}
 use Rattle.malletfrond_c.proofs.malletfrond_line.Tie as tie
 
@@ -22,15 +20,13 @@ same_length : tie.Need-same-length
 same_length c = search rules
 
 returns : tie.Need-returns
-unfolding line_told
-returns c = record { answer = _; lines = c.before.before.before.before.before.line.ensures; tells = tells-results (ap line_told c.before.answer.given.1) }
+returns c = line-written c.before.before.before.before.before.line.ensures _ c.before.answer.given.1
 
 same-length_2 : tie.Need-same-length-2
 same-length_2 c = search rules
 
 returns_2 : tie.Need-returns-2
-unfolding line_told
-returns_2 c = record { answer = _; lines = c.before.before.before.before.before.line.ensures; tells = tells-refusal (ap line_told c.before.answer2.given.1) }
+returns_2 c = line_refused c.before.before.before.before.before.line.ensures _ c.before.answer2.given.1
 
 pub malletfrond_line_spec : {M : Type 1} → statement M
 malletfrond_line_spec =

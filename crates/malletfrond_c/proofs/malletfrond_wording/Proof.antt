@@ -1,8 +1,6 @@
 -- `malletfrond_c::malletfrond_wording` meets its contract: the place is the one that the definition finds, and each arm tells its case of it. Assumes nothing.
-use mathlib.Core.Path.{sym, ap, ◌∙◌}
 use borrow.Author.Rules.{rules}
-use Rattle.malletfrond_c.proofs.Exported.{tells-results, tells-refusal}
-use Rattle.malletfrond_c.specs.Told.{wording_told}
+use Rattle.malletfrond_c.proofs.Exported.{wording-found, wording-refused}
 use Rattle.malletfrond_c.proofs.malletfrond_wording.Statement.{statement}
 use Rattle.malletfrond_c.proofs.malletfrond_wording.Tie as tie
 
@@ -19,12 +17,10 @@ cast_result : tie.Need-overflow-cast-result
 cast_result c = search rules
 
 returns : tie.Need-returns
-unfolding wording_told
-returns c = tells-results (ap wording_told (sym c.before.before.before.wording-place.ensures ∙ c.before.found.given.1))
+returns c = wording-found c.before.before.before.wording-place.ensures c.before.found.given.1
 
 returns_2 : tie.Need-returns-2
-unfolding wording_told
-returns_2 c = tells-refusal (ap wording_told (sym c.before.before.before.wording-place.ensures ∙ c.before.found2.given.1))
+returns_2 c = wording-refused c.before.before.before.wording-place.ensures c.before.found2.given.1
 
 pub malletfrond_wording_spec : {M : Type 1} → statement M
 malletfrond_wording_spec =

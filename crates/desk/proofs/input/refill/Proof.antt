@@ -38,8 +38,8 @@ loop_less c = omega arith
 loop_again : tie.Need-loop-preserved invariant_loop decreases_loop
 loop_again c = simp length-set (omega arith)
 
-read-more_requires : tie.Need-read-more-requires invariant_loop decreases_loop
-read-more_requires c κs = omega arith
+read_rest_requires : tie.Need-read-rest-requires invariant_loop decreases_loop
+read_rest_requires c κs = omega arith
 
 same_length : tie.Need-same-length invariant_loop decreases_loop
 same_length c = search rules
@@ -61,6 +61,6 @@ refill_spec =
     add_n
     loop_less
     loop_again
-    read-more_requires
+    read_rest_requires
     same_length
     returns)

@@ -7,10 +7,10 @@ use Rattle.desk.proofs.out.put.Statement.{statement}
 use Rattle.desk.proofs.out.put.Tie as tie
 
 abbrev invariant_loop : tie.invariant-loop
-invariant_loop out₀ text at₀ i₀ out at i = Unit {0}
+invariant_loop out₀ used text at₀ i₀ out at i = Unit {0}
 
 abbrev decreases_loop : tie.decreases-loop
-decreases_loop out₀ text at₀ i₀ out at i = length text - i
+decreases_loop out₀ used text at₀ i₀ out at i = length text - i
 
 loop_holds : tie.Need-loop-init invariant_loop decreases_loop
 loop_holds c = tt

@@ -7,10 +7,10 @@ use Rattle.desk.proofs.steps.list.Statement.{statement}
 use Rattle.desk.proofs.steps.list.Tie as tie
 
 abbrev invariant_loop : tie.invariant-loop
-invariant_loop room out₀ count at₀ k₀ out at k = Unit {0}
+invariant_loop room out₀ used count at₀ k₀ out at k = Unit {0}
 
 abbrev decreases_loop : tie.decreases-loop
-decreases_loop room out₀ count at₀ k₀ out at k = count - k
+decreases_loop room out₀ used count at₀ k₀ out at k = count - k
 
 complaints_requires : tie.Need-complaints-requires invariant_loop decreases_loop
 complaints_requires c κs = tt
@@ -48,9 +48,6 @@ loop_again c = tt
 returns : tie.Need-returns invariant_loop decreases_loop
 returns c = tt
 
-returns_2 : tie.Need-returns-2 invariant_loop decreases_loop
-returns_2 c = tt
-
 pub list_spec : {M : Type 1} → statement M
 list_spec =
     tie.close
@@ -68,5 +65,4 @@ list_spec =
     add-k
     loop_less
     loop_again
-    returns
-    returns_2)
+    returns)

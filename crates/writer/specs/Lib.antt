@@ -1,7 +1,0 @@
-pub mod Fields
-pub mod Rows
-pub mod Bytes
-pub mod Layout
-pub mod Values
-pub mod Promise
-pub mod Held
