@@ -9,7 +9,7 @@ use crate::refusal::{
 
 // What of the records before decides about the next one: how many rules, the last one's number, how many conditions that rule has,
 // how many tests the last of these; and the conditions of all rules.
-#[derive(Drop)]
+#[derive(Clone, Copy)]
 pub struct Standing {
     pub rules: usize,
     pub last: u16,

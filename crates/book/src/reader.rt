@@ -9,28 +9,28 @@ use crate::record::{Record, Size, record_at, size_of};
 use crate::refusal::{BOOK_TOO_LONG, MISPLACED, MOST_BYTES};
 
 // Accepted, with the numbers of rules and conditions, or refused with number and place.
-#[derive(Drop)]
+#[derive(Clone, Copy)]
 pub enum BookAnswer {
     Accepted { rules: usize, conditions: usize },
     Refused { number: u8, place: usize },
 }
 
 // Where each rule's record stands, how many conditions the rule has, and where each condition's first test would stand; zeros after the last.
-#[derive(Drop)]
+#[derive(Clone, Copy)]
 pub struct Places {
     pub rules: [u16; 32],
     pub counts: [u8; 32],
     pub conditions: [u16; 192],
 }
 
-#[derive(Drop)]
+#[derive(Clone, Copy)]
 pub struct Placed {
     pub answer: BookAnswer,
     pub places: Places,
 }
 
 // What one record makes of the reading: it goes on behind the record, or is over.
-#[derive(Drop)]
+#[derive(Clone, Copy)]
 enum Step {
     On { record: Record, next: usize },
     Over(BookAnswer),

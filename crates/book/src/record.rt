@@ -5,7 +5,7 @@ ghost use Rattle.book.specs.Record.{rule_body, constant_body, position_body, gap
 use crate::refusal::{CUT_SHORT, UNKNOWN_KIND};
 
 // A test is one of three kinds, each with its own numbers.
-#[derive(Drop)]
+#[derive(Clone, Copy)]
 pub enum Test {
     Constant {
         place: u8,
@@ -28,7 +28,7 @@ pub enum Test {
 }
 
 // What stands at a place of the book. A rule's wording stays in the book: an enum cannot hold it.
-#[derive(Drop)]
+#[derive(Clone, Copy)]
 pub enum Record {
     Rule { number: u16 },
     Condition,
@@ -38,7 +38,7 @@ pub enum Record {
 }
 
 // How many bytes a record takes; a refused one has no size.
-#[derive(Drop)]
+#[derive(Clone, Copy)]
 pub enum Size {
     Bytes(usize),
     Unknown,

@@ -9,14 +9,14 @@ use crate::record::{Record, Test, record_at, test_size};
 use crate::refusal::NO_SUCH_RULE;
 
 // Where a wording stands, or the refusal.
-#[derive(Drop)]
+#[derive(Clone, Copy)]
 pub enum WordingPlace {
     At(usize),
     Refused { number: u8, place: usize },
 }
 
 // The number and place of a refusal; zeros for none.
-#[derive(Drop)]
+#[derive(Clone, Copy)]
 pub struct Refusal {
     pub number: u8,
     pub place: usize,

@@ -1,10 +1,11 @@
 // A reading: three whole numbers, its order, and the twelve bytes in which a room keeps it.
+#![tactic(auto)]
 ghost use Rattle.std.specs.Prelude.{◌≡◌, ◌+◌, ◌*◌, ◌≤◌, length};
 ghost use Rattle.numbers.specs.Spliced.{spliced};
 ghost use Rattle.reading.specs.Reading.{place, is_less, is_same, reading_at, reading_bytes};
 
 // Three whole numbers, each 0 to 4,294,967,295.
-#[derive(Drop)]
+#[derive(Clone, Copy)]
 pub struct Reading {
     pub line: u32,
     pub column: u32,
