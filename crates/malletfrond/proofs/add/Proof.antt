@@ -17,19 +17,19 @@ use Rattle.malletfrond.proofs.add.Tie as tie
 
 -- ---- places: a room that was not refused, the readings counted, the reading looked up
 
-abbrev start : tie.Else1 → tie.Start
+abbrev start : tie.Else-is_broken → tie.Start
 start c = c.before.before.before.before
 
-intact : (c : tie.Else1) → broken (start c).args.room.now ≡ false
-intact c = sym c.before.is-broken.ensures ∙ c.if1.false
+intact : (c : tie.Else-is_broken) → broken (start c).args.room.now ≡ false
+intact c = sym c.before.is_broken.ensures ∙ c.if-is_broken.false
 
-abbrev read : tie.After-two-at2 → tie.Else1
+abbrev read : tie.After-two_at-n → tie.Else-is_broken
 read c = c.before.before.before.before
 
-abbrev ranked : tie.After-rank-of → tie.After-two-at2
+abbrev ranked : tie.After-rank_of-p → tie.After-two_at-n
 ranked c = c.before.before.before.before
 
-abbrev placed : tie.After-stands-at → tie.After-rank-of
+abbrev placed : tie.After-stands_at → tie.After-rank_of-p
 placed c = c.before.before.before.before
 
 abbrev reading : tie.Start → Reading
@@ -38,140 +38,140 @@ reading s = record { line = s.args.line; column = s.args.column; value = s.args.
 fits : (s : tie.Start) → Fits (reading s)
 fits s = record { line = omega arith; column = omega arith; value = omega arith }
 
-looks : (c : tie.After-stands-at)
-    → LookedUp (start (read (ranked (placed c)))).args.room.now (reading (start (read (ranked (placed c))))) (ranked (placed c)).two-at2.result (placed c).rank-of.result
+looks : (c : tie.After-stands_at)
+    → LookedUp (start (read (ranked (placed c)))).args.room.now (reading (start (read (ranked (placed c))))) (ranked (placed c)).two_at-n.result (placed c).rank_of-p.result
     c.stands_at.result
 looks c =
     let b = placed c in
     let a = ranked b in
-    looked_up _ (reading (start (read a))) (intact (read a)) a.two-at2.ensures.0 b.rank-of.ensures c.stands_at.ensures
+    looked_up _ (reading (start (read a))) (intact (read a)) a.two_at-n.ensures.0 b.rank_of-p.ensures c.stands_at.ensures
 
 -- ---- places: the slots counted, the addition worked out
 
-abbrev new : tie.After-two-at3 → tie.Else2
+abbrev new : tie.After-two_at → tie.Else-stands_at
 new c = c.before.before
 
-abbrev free : tie.After-add-at → tie.Else3
+abbrev free : tie.After-add_at-after → tie.Else-two_at-n
 free c = c.before.before.before.before
 
-abbrev worked : tie.After-struct-known → tie.After-add-at
+abbrev worked : tie.After-struct_known-1 → tie.After-add_at-after
 worked c = c.before.before.before
 
 -- ---- the needs
 
-is-broken_requires : tie.Need-is-broken-requires
+is-broken_requires : tie.Need-is_broken-requires
 is-broken_requires c κs = search rules
 
-same_length : tie.Need-same-length
+same_length : tie.Need-shape_of-room-then-is_broken
 same_length c = search rules
 
-returns : tie.Need-returns
-returns c = steps-broken _ _ (sym c.before.is-broken.ensures ∙ c.if1.true)
+returns : tie.Need-returns-then-is_broken
+returns c = steps-broken _ _ (sym c.before.is_broken.ensures ∙ c.if-is_broken.true)
 
-two-at_requires : tie.Need-two-at-requires
+two-at_requires : tie.Need-two_at-limit-requires
 two-at_requires c κs = in_room _ (intact c.before) (lit≤ tt)
 
-two-at_requires_2 : tie.Need-two-at-requires-2
+two-at_requires_2 : tie.Need-two_at-n-requires
 two-at_requires_2 c κs = in_room _ (intact c.before.before.before) (lit≤ tt)
 
-sub_rank_of : tie.Need-overflow-sub-rank-of
+sub_rank_of : tie.Need-slice_bounds-rank_of-count
 sub_rank_of c = search rules
 
-part_rank_of_start : tie.Need-slice-bounds-rank-of-start
+part_rank_of_start : tie.Need-slice_bounds-rank_of-start
 part_rank_of_start c = search rules
 
-part_rank_of_end : tie.Need-slice-bounds-rank-of-end
+part_rank_of_end : tie.Need-slice_bounds-rank_of-end
 part_rank_of_end c = in_room _ (intact (read c.before)) (lit≤ tt)
 
-sub_rank_of_2 : tie.Need-overflow-sub-rank-of-2
+sub_rank_of_2 : tie.Need-slice_bounds-rank_of-count-2
 sub_rank_of_2 c = search rules
 
-part_rank_of_start_2 : tie.Need-slice-bounds-rank-of-start-2
+part_rank_of_start_2 : tie.Need-slice_bounds-rank_of-start-2
 part_rank_of_start_2 c = search rules
 
-part_rank_of_end_2 : tie.Need-slice-bounds-rank-of-end-2
+part_rank_of_end_2 : tie.Need-slice_bounds-rank_of-end-2
 part_rank_of_end_2 c = in_room _ (intact (read c.before.before)) (lit≤ tt)
 
-rank_of_requires : tie.Need-rank-of-requires
-rank_of_requires c κs = let a = c.before.before.before in parts-lent _ (intact (read a)) a.two-at2.ensures.0
+rank_of_requires : tie.Need-rank_of-p-requires
+rank_of_requires c κs = let a = c.before.before.before in parts-lent _ (intact (read a)) a.two_at-n.ensures.0
 
-sub_stands-at : tie.Need-overflow-sub-stands-at
+sub_stands-at : tie.Need-slice_bounds-stands_at-count
 sub_stands-at c = search rules
 
-part-stands-at-start : tie.Need-slice-bounds-stands-at-start
+part-stands-at-start : tie.Need-slice_bounds-stands_at-start
 part-stands-at-start c = search rules
 
-part-stands-at-end : tie.Need-slice-bounds-stands-at-end
+part-stands-at-end : tie.Need-slice_bounds-stands_at-end
 part-stands-at-end c = in_room _ (intact (read (ranked c.before))) (lit≤ tt)
 
-sub_stands-at_2 : tie.Need-overflow-sub-stands-at-2
+sub_stands-at_2 : tie.Need-slice_bounds-stands_at-count-2
 sub_stands-at_2 c = search rules
 
-part-stands-at-start_2 : tie.Need-slice-bounds-stands-at-start-2
+part-stands-at-start_2 : tie.Need-slice_bounds-stands_at-start-2
 part-stands-at-start_2 c = search rules
 
-part-stands-at-end_2 : tie.Need-slice-bounds-stands-at-end-2
+part-stands-at-end_2 : tie.Need-slice_bounds-stands_at-end-2
 part-stands-at-end_2 c = in_room _ (intact (read (ranked c.before.before))) (lit≤ tt)
 
-stands-at_requires : tie.Need-stands-at-requires
-stands-at_requires c κs = let a = ranked c.before.before.before in parts-lent _ (intact (read a)) a.two-at2.ensures.0
+stands-at_requires : tie.Need-stands_at-requires
+stands-at_requires c κs = let a = ranked c.before.before.before in parts-lent _ (intact (read a)) a.two_at-n.ensures.0
 
-same-length_2 : tie.Need-same-length-2
+same-length_2 : tie.Need-shape_of-room-then-stands_at
 same-length_2 c = search rules
 
-returns_2 : tie.Need-returns-2
-returns_2 c = let k = looks c.before in adds-present _ _ k.p_is k.whole (k.found-is ∙ c.if2.true)
+returns_2 : tie.Need-returns-then-stands_at
+returns_2 c = let k = looks c.before in adds-present _ _ k.p_is k.whole (k.found-is ∙ c.if-stands_at.true)
 
-two-at_requires_3 : tie.Need-two-at-requires-3
+two-at_requires_3 : tie.Need-two_at-requires
 two-at_requires_3 c κs = in_room _ (looks c.before.before).whole (lit≤ tt)
 
-same-length_3 : tie.Need-same-length-3
+same-length_3 : tie.Need-shape_of-room-then-two_at-n
 same-length_3 c = search rules
 
-returns_3 : tie.Need-returns-3
+returns_3 : tie.Need-returns-then-two_at-n
 returns_3 c =
     let e = new c.before in
-    adds-no-slot (looks e.before) e.if2.left c.before.two-at3.ensures.0 c.if3.true
+    adds-no-slot (looks e.before) e.if-stands_at.false c.before.two_at.ensures.0 c.if-two_at-n.true
 
-complete_of_requires : tie.Need-complete-of-requires
+complete_of_requires : tie.Need-complete_of-before-requires
 complete_of_requires c κs = (looks (new c.before.before).before).whole
 
-add-at_requires : tie.Need-add-at-requires
+add-at_requires : tie.Need-add_at-after-requires
 add-at_requires c κs =
     let f = c.before.before.before in
     let e = new f.before in
     let k = looks e.before in
-    (k.whole, (omega (arith, k), slot-free k e.if2.left f.before.two-at3.ensures.0 f.if3.false))
+    (k.whole, (omega (arith, k), slot-free k e.if-stands_at.false f.before.two_at.ensures.0 f.if-two_at-n.false))
 
-same-length_4 : tie.Need-same-length-4
+same-length_4 : tie.Need-shape_of-room-then-limit-after
 same-length_4 c = search rules
 
-returns_4 : tie.Need-returns-4
+returns_4 : tie.Need-returns-then-limit-after
 returns_4 c =
     let w = worked c.before in
     let f = free w in
     let e = new f.before in
     let a = ranked (placed e.before) in
-    adds-too-many (looks e.before) e.if2.left f.before.two-at3.ensures.0 f.if3.left (fits (start (read a))) a.before.before.two_at.ensures.0 w.add_at.ensures
-    c.if4.true
+    adds-too-many (looks e.before) e.if-stands_at.false f.before.two_at.ensures.0 f.if-two_at-n.false (fits (start (read a))) a.before.before.two_at-limit.ensures.0 w.add_at-after.ensures
+    c.if-limit-after.true
 
-add_t23 : tie.Need-overflow-add-t23
-add_t23 c = let f = free (worked c.before) in omega (arith, f.if3.left, f.before.two-at3.ensures.1)
+add_t23 : tie.Need-overflow_add-result
+add_t23 c = let f = free (worked c.before) in omega (arith, f.if-two_at-n.false, f.before.two_at.ensures.1)
 
-more_than_requires : tie.Need-more-than-requires
+more_than_requires : tie.Need-more_than-requires
 more_than_requires c κs = search rules
 
-same-length_5 : tie.Need-same-length-5
+same-length_5 : tie.Need-shape_of-room
 same-length_5 c = search rules
 
-returns_5 : tie.Need-returns-5
+returns_5 : tie.Need-returns
 returns_5 c =
     let w = worked c.before.before in
     let f = free w in
     let e = new f.before in
     let a = ranked (placed e.before) in
-    adds-new (looks e.before) e.if2.left f.before.two-at3.ensures.0 f.if3.left (fits (start (read a))) a.before.before.two_at.ensures.0 w.add_at.ensures
-    c.before.if4.false w.before.before.complete-of.ensures c.more-than.ensures
+    adds-new (looks e.before) e.if-stands_at.false f.before.two_at.ensures.0 f.if-two_at-n.false (fits (start (read a))) a.before.before.two_at-limit.ensures.0 w.add_at-after.ensures
+    c.before.if-limit-after.false w.before.before.complete_of-before.ensures c.more_than.ensures
 
 pub add_spec : {M : Type 1} → statement M
 add_spec =

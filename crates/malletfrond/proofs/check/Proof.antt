@@ -19,111 +19,111 @@ use Rattle.malletfrond.proofs.check.Tie as tie
 
 -- ---- places: a room that was not refused, its tables, its order, its readings, its rows asked after
 
-abbrev lent : tie.Else1 → List ℕ
+abbrev lent : tie.Else-is_broken → List ℕ
 lent c = c.before.before.before.args.room.now
 
-intact : (c : tie.Else1) → broken (lent c) ≡ false
-intact c = sym c.before.is-broken.ensures ∙ c.if1.false
+intact : (c : tie.Else-is_broken) → broken (lent c) ≡ false
+intact c = sym c.before.is_broken.ensures ∙ c.if-is_broken.false
 
-abbrev whole : tie.Else2 → tie.Else1
+abbrev whole : tie.Else-not-index_agrees → tie.Else-is_broken
 whole c = c.before.before
 
-indexed : (c : tie.Else2) → Indexed (lent (whole c))
-indexed c = c.before.index-Agrees.ensures.0 (not-false _ c.if2.false)
+indexed : (c : tie.Else-not-index_agrees) → Indexed (lent (whole c))
+indexed c = c.before.index-Agrees.ensures.0 (not-false _ c.if-not-index_agrees.false-raw)
 
-abbrev tabled : tie.Else3 → tie.Else2
+abbrev tabled : tie.Else-not-each_once → tie.Else-not-index_agrees
 tabled c = c.before.before.before
 
-once : (c : tie.Else3) → Once (orderPart (parts (lent (whole (tabled c)))))
-once c = c.before.each-once.ensures.0 (not-false _ c.if3.false)
+once : (c : tie.Else-not-each_once) → Once (orderPart (parts (lent (whole (tabled c)))))
+once c = c.before.each_once.ensures.0 (not-false _ c.if-not-each_once.false-raw)
 
-abbrev counted : tie.After-ascend → tie.After-two-at
+abbrev counted : tie.After-ascend → tie.After-two_at-n
 counted c = c.before.before.before
 
-abbrev ordered : tie.Else4 → tie.Else3
+abbrev ordered : tie.Else-not-ascend → tie.Else-not-each_once
 ordered c = (counted c.before).before
 
-rises : (c : tie.Else4) → Rises (lent (whole (tabled (ordered c))))
-rises c = (rises-read _ (counted c.before).two_at.ensures.0 c.before.ascend.ensures).0 (not-false _ c.if4.false)
+rises : (c : tie.Else-not-ascend) → Rises (lent (whole (tabled (ordered c))))
+rises c = (rises-read _ (counted c.before).two_at-n.ensures.0 c.before.ascend.ensures).0 (not-false _ c.if-not-ascend.false-raw)
 
-abbrev rising : tie.Else5 → tie.Else4
+abbrev rising : tie.Else-not-rows_agree → tie.Else-not-ascend
 rising c = c.before.before
 
-rows : (c : tie.Else5) → RowsAgree (lent (whole (tabled (ordered (rising c)))))
-rows c = c.before.rows_agree.ensures.0 (not-false _ c.if5.false)
+rows : (c : tie.Else-not-rows_agree) → RowsAgree (lent (whole (tabled (ordered (rising c)))))
+rows c = c.before.rows_agree.ensures.0 (not-false _ c.if-not-rows_agree.false-raw)
 
 -- ---- the needs
 
-is-broken_requires : tie.Need-is-broken-requires
+is-broken_requires : tie.Need-is_broken-requires
 is-broken_requires c κs = search rules
 
-returns : tie.Need-returns
-returns c = checks-broken _ (sym c.before.is-broken.ensures ∙ c.if1.true)
+returns : tie.Need-returns-then-is_broken
+returns c = checks-broken _ (sym c.before.is_broken.ensures ∙ c.if-is_broken.true)
 
-index_agrees_requires : tie.Need-index-agrees-requires
+index_agrees_requires : tie.Need-index_agrees-requires
 index_agrees_requires c κs = intact c
 
-returns_2 : tie.Need-returns-2
-returns_2 c = checks-lacking _ (not-true _ c.if2.true) c.before.index-Agrees.ensures (sound-indexed _)
+returns_2 : tie.Need-returns-then-not-index_agrees
+returns_2 c = checks-lacking _ (not-true _ c.if-not-index_agrees.true-raw) c.before.index-Agrees.ensures (sound-indexed _)
 
-sub_each-once : tie.Need-overflow-sub-each-once
+sub_each-once : tie.Need-slice_bounds-each_once-count
 sub_each-once c = search rules
 
-part-each-once-start : tie.Need-slice-bounds-each-once-start
+part-each-once-start : tie.Need-slice_bounds-each_once-start
 part-each-once-start c = search rules
 
-part-each-once-end : tie.Need-slice-bounds-each-once-end
+part-each-once-end : tie.Need-slice_bounds-each_once-end
 part-each-once-end c = in_room _ (intact (whole c)) (lit≤ tt)
 
-each-once_requires : tie.Need-each-once-requires
+each-once_requires : tie.Need-each_once-requires
 each-once_requires c κs = search rules
 
-returns_3 : tie.Need-returns-3
-returns_3 c = checks-lacking _ (not-true _ c.if3.true) c.before.each-once.ensures (λ s. s.arranged.once)
+returns_3 : tie.Need-returns-then-not-each_once
+returns_3 c = checks-lacking _ (not-true _ c.if-not-each_once.true-raw) c.before.each_once.ensures (λ s. s.arranged.once)
 
-two-at_requires : tie.Need-two-at-requires
+two-at_requires : tie.Need-two_at-n-requires
 two-at_requires c κs = in_room _ (intact (whole (tabled c))) (lit≤ tt)
 
-sub_ascend : tie.Need-overflow-sub-ascend
+sub_ascend : tie.Need-slice_bounds-ascend-count
 sub_ascend c = search rules
 
-part-ascend-start : tie.Need-slice-bounds-ascend-start
+part-ascend-start : tie.Need-slice_bounds-ascend-start
 part-ascend-start c = search rules
 
-part-ascend-end : tie.Need-slice-bounds-ascend-end
+part-ascend-end : tie.Need-slice_bounds-ascend-end
 part-ascend-end c = in_room _ (intact (whole (tabled c.before))) (lit≤ tt)
 
-sub_ascend_2 : tie.Need-overflow-sub-ascend-2
+sub_ascend_2 : tie.Need-slice_bounds-ascend-count-2
 sub_ascend_2 c = search rules
 
-part-ascend-start_2 : tie.Need-slice-bounds-ascend-start-2
+part-ascend-start_2 : tie.Need-slice_bounds-ascend-start-2
 part-ascend-start_2 c = search rules
 
-part-ascend-end_2 : tie.Need-slice-bounds-ascend-end-2
+part-ascend-end_2 : tie.Need-slice_bounds-ascend-end-2
 part-ascend-end_2 c = in_room _ (intact (whole (tabled c.before.before))) (lit≤ tt)
 
 ascend_requires : tie.Need-ascend-requires
-ascend_requires c κs = let n = c.before.before in parts-lent _ (intact (whole (tabled n.before))) n.two_at.ensures.0
+ascend_requires c κs = let n = c.before.before in parts-lent _ (intact (whole (tabled n.before))) n.two_at-n.ensures.0
 
-returns_4 : tie.Need-returns-4
-returns_4 c = checks-lacking _ (not-true _ c.if4.true) (rises-read _ (counted c.before).two_at.ensures.0 c.before.ascend.ensures) (sound-rises _)
+returns_4 : tie.Need-returns-then-not-ascend
+returns_4 c = checks-lacking _ (not-true _ c.if-not-ascend.true-raw) (rises-read _ (counted c.before).two_at-n.ensures.0 c.before.ascend.ensures) (sound-rises _)
 
-rows_agree_requires : tie.Need-rows-agree-requires
+rows_agree_requires : tie.Need-rows_agree-requires
 rows_agree_requires c κs = intact (whole (tabled (ordered c)))
 
-returns_5 : tie.Need-returns-5
-returns_5 c = checks-lacking _ (not-true _ c.if5.true) c.before.rows_agree.ensures (sound-rows _)
+returns_5 : tie.Need-returns-then-not-rows_agree
+returns_5 c = checks-lacking _ (not-true _ c.if-not-rows_agree.true-raw) c.before.rows_agree.ensures (sound-rows _)
 
-tokens_agree_requires : tie.Need-tokens-agree-requires
+tokens_agree_requires : tie.Need-tokens_agree-requires
 tokens_agree_requires c κs = intact (whole (tabled (ordered (rising c))))
 
-returns_6 : tie.Need-returns-6
+returns_6 : tie.Need-returns
 returns_6 c =
     let w = c.before in
     let r = rising w in
     let o = ordered r in
     let t = tabled o in
-    checks-yes _ (intact (whole t)) (indexed t) (once o) (rises r) (rows w) _ c.tokens-agree.ensures
+    checks-yes _ (intact (whole t)) (indexed t) (once o) (rises r) (rows w) _ c.tokens_agree.ensures
 
 pub check_spec : {M : Type 1} → statement M
 check_spec =

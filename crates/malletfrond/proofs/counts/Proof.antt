@@ -11,28 +11,28 @@ use Rattle.malletfrond.proofs.counts.Statement.{statement}
 use Rattle.malletfrond.proofs.counts.Tie as tie
 
 -- a room that was not refused
-intact : (c : tie.Else1) → broken c.before.before.before.args.room.now ≡ false
-intact c = sym c.before.is-broken.ensures ∙ c.if1.false
+intact : (c : tie.Else-is_broken) → broken c.before.before.before.args.room.now ≡ false
+intact c = sym c.before.is_broken.ensures ∙ c.if-is_broken.false
 
-is-broken_requires : tie.Need-is-broken-requires
+is-broken_requires : tie.Need-is_broken-requires
 is-broken_requires c κs = search rules
 
-returns : tie.Need-returns
-returns c = counts-broken _ (sym c.before.is-broken.ensures ∙ c.if1.true)
+returns : tie.Need-returns-then-is_broken
+returns c = counts-broken _ (sym c.before.is_broken.ensures ∙ c.if-is_broken.true)
 
-two-at_requires : tie.Need-two-at-requires
+two-at_requires : tie.Need-two_at-requires
 two-at_requires c κs = let w = not-broken-whole _ (intact c) in omega arith
 
-two-at_requires_2 : tie.Need-two-at-requires-2
+two-at_requires_2 : tie.Need-two_at-requires-2
 two-at_requires_2 c κs = let w = not-broken-whole _ (intact c.before) in omega arith
 
-complete_of_requires : tie.Need-complete-of-requires
+complete_of_requires : tie.Need-complete_of-requires
 complete_of_requires c κs = intact c.before.before
 
-returns_2 : tie.Need-returns-2
+returns_2 : tie.Need-returns
 returns_2 c =
     let b = c.before.before in
-    counts_whole _ (intact b.before) _ _ _ b.two_at.ensures.0 c.before.two-at2.ensures.0 c.complete-of.ensures
+    counts_whole _ (intact b.before) _ _ _ b.two_at.ensures.0 c.before.two_at-2.ensures.0 c.complete_of.ensures
 
 pub counts_spec : {M : Type 1} → statement M
 counts_spec =

@@ -15,16 +15,16 @@ use Rattle.malletfrond.proofs.limits_fit.Tie as tie
 unfit : (E T : ℕ) → (Limits E T → ⊥) → false ≡ limits_fit E T
 unfit E T outside = sym (eq-false_of_not-eq-true λ t. outside ((limits_fit_lem E T).0 t))
 
-returns : tie.Need-returns
+returns : tie.Need-returns-then-e-lt1
 returns c = unfit _ _ λ h. omega arith
 
-returns_2 : tie.Need-returns-2
+returns_2 : tie.Need-returns-then-e-gt256
 returns_2 c = unfit _ _ λ h. omega arith
 
-returns_3 : tie.Need-returns-3
+returns_3 : tie.Need-returns-then-t-lt1
 returns_3 c = unfit _ _ λ h. omega arith
 
-returns_4 : tie.Need-returns-4
+returns_4 : tie.Need-returns
 returns_4 c =
     let t = c.before.before.before.args.t in
     agreed _ _ (λ q. (limits_fit_lem _ _).1 (omega (arith, leb-true t 2048 q)), λ q. let h = (limits_fit_lem _ _).0 q in le-leb t 2048 (omega arith))

@@ -17,128 +17,128 @@ use Rattle.malletfrond.proofs.remove.Tie as tie
 
 -- ---- places: a room that was not refused, the readings counted, the reading looked up
 
-abbrev start : tie.Else1 → tie.Start
+abbrev start : tie.Else-is_broken → tie.Start
 start c = c.before.before.before.before
 
-intact : (c : tie.Else1) → broken (start c).args.room.now ≡ false
-intact c = sym c.before.is-broken.ensures ∙ c.if1.false
+intact : (c : tie.Else-is_broken) → broken (start c).args.room.now ≡ false
+intact c = sym c.before.is_broken.ensures ∙ c.if-is_broken.false
 
-abbrev read : tie.After-two-at → tie.Else1
+abbrev read : tie.After-two_at-n → tie.Else-is_broken
 read c = c.before.before
 
-abbrev ranked : tie.After-rank-of → tie.After-two-at
+abbrev ranked : tie.After-rank_of-p → tie.After-two_at-n
 ranked c = c.before.before.before.before
 
-abbrev placed : tie.After-stands-at → tie.After-rank-of
+abbrev placed : tie.After-stands_at → tie.After-rank_of-p
 placed c = c.before.before.before.before
 
 abbrev reading : tie.Start → Reading
 reading s = record { line = s.args.line; column = s.args.column; value = s.args.value }
 
-looks : (c : tie.After-stands-at)
-    → LookedUp (start (read (ranked (placed c)))).args.room.now (reading (start (read (ranked (placed c))))) (ranked (placed c)).two_at.result (placed c).rank-of.result
+looks : (c : tie.After-stands_at)
+    → LookedUp (start (read (ranked (placed c)))).args.room.now (reading (start (read (ranked (placed c))))) (ranked (placed c)).two_at-n.result (placed c).rank_of-p.result
     c.stands_at.result
 looks c =
     let b = placed c in
     let a = ranked b in
-    looked_up _ (reading (start (read a))) (intact (read a)) a.two_at.ensures.0 b.rank-of.ensures c.stands_at.ensures
+    looked_up _ (reading (start (read a))) (intact (read a)) a.two_at-n.ensures.0 b.rank_of-p.ensures c.stands_at.ensures
 
 -- a reading that was found
-found : (c : tie.Else2) → c.before.stands_at.result ≡ true
-found c = not-false _ c.if2.false
+found : (c : tie.Else-not-stands_at) → c.before.stands_at.result ≡ true
+found c = not-false _ c.if-not-stands_at.false-raw
 
-abbrev asked : tie.After-remove-at-arg → tie.Else2
+abbrev asked : tie.After-remove_at-arg-1 → tie.Else-not-stands_at
 asked c = c.before.before.before
 
 -- ---- the needs
 
-is-broken_requires : tie.Need-is-broken-requires
+is-broken_requires : tie.Need-is_broken-requires
 is-broken_requires c κs = search rules
 
-same_length : tie.Need-same-length
+same_length : tie.Need-shape_of-room-then-is_broken
 same_length c = search rules
 
-returns : tie.Need-returns
-returns c = steps-broken _ _ (sym c.before.is-broken.ensures ∙ c.if1.true)
+returns : tie.Need-returns-then-is_broken
+returns c = steps-broken _ _ (sym c.before.is_broken.ensures ∙ c.if-is_broken.true)
 
-two-at_requires : tie.Need-two-at-requires
+two-at_requires : tie.Need-two_at-n-requires
 two-at_requires c κs = in_room _ (intact c.before) (lit≤ tt)
 
-sub_rank_of : tie.Need-overflow-sub-rank-of
+sub_rank_of : tie.Need-slice_bounds-rank_of-count
 sub_rank_of c = search rules
 
-part_rank_of_start : tie.Need-slice-bounds-rank-of-start
+part_rank_of_start : tie.Need-slice_bounds-rank_of-start
 part_rank_of_start c = search rules
 
-part_rank_of_end : tie.Need-slice-bounds-rank-of-end
+part_rank_of_end : tie.Need-slice_bounds-rank_of-end
 part_rank_of_end c = in_room _ (intact (read c.before)) (lit≤ tt)
 
-sub_rank_of_2 : tie.Need-overflow-sub-rank-of-2
+sub_rank_of_2 : tie.Need-slice_bounds-rank_of-count-2
 sub_rank_of_2 c = search rules
 
-part_rank_of_start_2 : tie.Need-slice-bounds-rank-of-start-2
+part_rank_of_start_2 : tie.Need-slice_bounds-rank_of-start-2
 part_rank_of_start_2 c = search rules
 
-part_rank_of_end_2 : tie.Need-slice-bounds-rank-of-end-2
+part_rank_of_end_2 : tie.Need-slice_bounds-rank_of-end-2
 part_rank_of_end_2 c = in_room _ (intact (read c.before.before)) (lit≤ tt)
 
-rank_of_requires : tie.Need-rank-of-requires
-rank_of_requires c κs = let a = c.before.before.before in parts-lent _ (intact (read a)) a.two_at.ensures.0
+rank_of_requires : tie.Need-rank_of-p-requires
+rank_of_requires c κs = let a = c.before.before.before in parts-lent _ (intact (read a)) a.two_at-n.ensures.0
 
-sub_stands-at : tie.Need-overflow-sub-stands-at
+sub_stands-at : tie.Need-slice_bounds-stands_at-count
 sub_stands-at c = search rules
 
-part-stands-at-start : tie.Need-slice-bounds-stands-at-start
+part-stands-at-start : tie.Need-slice_bounds-stands_at-start
 part-stands-at-start c = search rules
 
-part-stands-at-end : tie.Need-slice-bounds-stands-at-end
+part-stands-at-end : tie.Need-slice_bounds-stands_at-end
 part-stands-at-end c = in_room _ (intact (read (ranked c.before))) (lit≤ tt)
 
-sub_stands-at_2 : tie.Need-overflow-sub-stands-at-2
+sub_stands-at_2 : tie.Need-slice_bounds-stands_at-count-2
 sub_stands-at_2 c = search rules
 
-part-stands-at-start_2 : tie.Need-slice-bounds-stands-at-start-2
+part-stands-at-start_2 : tie.Need-slice_bounds-stands_at-start-2
 part-stands-at-start_2 c = search rules
 
-part-stands-at-end_2 : tie.Need-slice-bounds-stands-at-end-2
+part-stands-at-end_2 : tie.Need-slice_bounds-stands_at-end-2
 part-stands-at-end_2 c = in_room _ (intact (read (ranked c.before.before))) (lit≤ tt)
 
-stands-at_requires : tie.Need-stands-at-requires
-stands-at_requires c κs = let a = ranked c.before.before.before in parts-lent _ (intact (read a)) a.two_at.ensures.0
+stands-at_requires : tie.Need-stands_at-requires
+stands-at_requires c κs = let a = ranked c.before.before.before in parts-lent _ (intact (read a)) a.two_at-n.ensures.0
 
-same-length_2 : tie.Need-same-length-2
+same-length_2 : tie.Need-shape_of-room-then-not-stands_at
 same-length_2 c = search rules
 
-returns_2 : tie.Need-returns-2
-returns_2 c = let k = looks c.before in removes-absent _ _ k.p_is k.whole (k.found-is ∙ not-true _ c.if2.true)
+returns_2 : tie.Need-returns-then-not-stands_at
+returns_2 c = let k = looks c.before in removes-absent _ _ k.p_is k.whole (k.found-is ∙ not-true _ c.if-not-stands_at.true-raw)
 
-complete_of_requires : tie.Need-complete-of-requires
+complete_of_requires : tie.Need-complete_of-before-requires
 complete_of_requires c κs = (looks c.before.before).whole
 
-remove-at_requires : tie.Need-remove-at-requires
+remove-at_requires : tie.Need-remove_at-after-requires
 remove-at_requires c κs =
     let k = looks (asked c).before in
     let low = found-low k (found (asked c)) in
     (k.whole, omega arith)
 
-sub_t16 : tie.Need-overflow-sub-t16
+sub_t16 : tie.Need-overflow_sub-result
 sub_t16 c =
     let e = asked c.before.before.before in
     let k = looks e.before in
     let low = found-low k (found e) in
     omega arith
 
-more_than_requires : tie.Need-more-than-requires
+more_than_requires : tie.Need-more_than-requires
 more_than_requires c κs = search rules
 
-same-length_3 : tie.Need-same-length-3
+same-length_3 : tie.Need-shape_of-room
 same-length_3 c = search rules
 
-returns_3 : tie.Need-returns-3
+returns_3 : tie.Need-returns
 returns_3 c =
     let w = c.before.before.before in
     let e = asked w.before in
-    removes-found (looks e.before) (found e) w.remove-at.ensures w.before.before.complete-of.ensures c.more-than.ensures
+    removes-found (looks e.before) (found e) w.remove_at-after.ensures w.before.before.complete_of-before.ensures c.more_than.ensures
 
 pub remove_spec : {M : Type 1} → statement M
 remove_spec =

@@ -12,34 +12,34 @@ use Rattle.numbers.proofs.digit_count.Tie as tie
 counted : (k x : ℕ) → k < 10 → 10 ^ k ≤ x → x < 10 ^ suc k → (suc k ≡ length (digits x)) × (suc k ≤ 10)
 counted k x few l h = omega (arith, length-digits_from k x l h)
 
-returns : tie.Need-returns
+returns : tie.Need-returns-then-x-lt10
 returns c = omega (arith, length-digits-small c.before.args.x (omega arith))
 
-returns_2 : tie.Need-returns-2
+returns_2 : tie.Need-returns-then-x-lt100
 returns_2 c = counted 1 _ (omega arith) (omega arith) (omega arith)
 
-returns_3 : tie.Need-returns-3
+returns_3 : tie.Need-returns-then-x-lt1000
 returns_3 c = counted 2 _ (omega arith) (omega arith) (omega arith)
 
-returns_4 : tie.Need-returns-4
+returns_4 : tie.Need-returns-then-x-lt10000
 returns_4 c = counted 3 _ (omega arith) (omega arith) (omega arith)
 
-returns_5 : tie.Need-returns-5
+returns_5 : tie.Need-returns-then-x-lt100000
 returns_5 c = counted 4 _ (omega arith) (omega arith) (omega arith)
 
-returns_6 : tie.Need-returns-6
+returns_6 : tie.Need-returns-then-x-lt1000000
 returns_6 c = counted 5 _ (omega arith) (omega arith) (omega arith)
 
-returns_7 : tie.Need-returns-7
+returns_7 : tie.Need-returns-then-x-lt10000000
 returns_7 c = counted 6 _ (omega arith) (omega arith) (omega arith)
 
-returns_8 : tie.Need-returns-8
+returns_8 : tie.Need-returns-then-x-lt100000000
 returns_8 c = counted 7 _ (omega arith) (omega arith) (omega arith)
 
-returns_9 : tie.Need-returns-9
+returns_9 : tie.Need-returns-then-x-lt1000000000
 returns_9 c = counted 8 _ (omega arith) (omega arith) (omega arith)
 
-returns_10 : tie.Need-returns-10
+returns_10 : tie.Need-returns
 returns_10 c = counted 9 _ (omega arith) (omega arith) (omega arith)
 
 pub digit_count_spec : {M : Type 1} → statement M

@@ -6,46 +6,46 @@ use borrow.Author.Rules.{rules}
 use Rattle.numbers.proofs.four_at.Statement.{statement}
 use Rattle.numbers.proofs.four_at.Tie as tie
 
-byte_at_requires : tie.Need-byte-at-requires
+byte_at_requires : tie.Need-byte_at-requires
 byte_at_requires c κs = search rules
 
-mul_two : tie.Need-overflow-mul-two
+mul_two : tie.Need-overflow_mul-two
 mul_two c = search rules
 
-add_byte_at : tie.Need-overflow-add-byte-at
+add_byte_at : tie.Need-overflow_add-i
 add_byte_at c = search rules
 
-byte_at_requires_2 : tie.Need-byte-at-requires-2
+byte_at_requires_2 : tie.Need-byte_at-requires-2
 byte_at_requires_2 c κs = search rules
 
-add-two : tie.Need-overflow-add-two
+add-two : tie.Need-overflow_add-two
 add-two c = search rules
 
-mul_three : tie.Need-overflow-mul-three
+mul_three : tie.Need-overflow_mul-three
 mul_three c = search rules
 
-add_byte_at_2 : tie.Need-overflow-add-byte-at-2
+add_byte_at_2 : tie.Need-overflow_add-i-2
 add_byte_at_2 c = search rules
 
-byte_at_requires_3 : tie.Need-byte-at-requires-3
+byte_at_requires_3 : tie.Need-byte_at-requires-3
 byte_at_requires_3 c κs = search rules
 
-add_three : tie.Need-overflow-add-three
+add_three : tie.Need-overflow_add-three
 add_three c = search rules
 
-mul_result : tie.Need-overflow-mul-result
+mul_result : tie.Need-overflow_mul-result
 mul_result c = search rules
 
-add_byte_at_3 : tie.Need-overflow-add-byte-at-3
+add_byte_at_3 : tie.Need-overflow_add-i-3
 add_byte_at_3 c = search rules
 
-byte_at_requires_4 : tie.Need-byte-at-requires-4
+byte_at_requires_4 : tie.Need-byte_at-requires-4
 byte_at_requires_4 c κs = search rules
 
-add-result : tie.Need-overflow-add-result
+add-result : tie.Need-overflow_add-result
 add-result c = search rules
 
-cast_result : tie.Need-overflow-cast-result
+cast_result : tie.Need-overflow_cast-result
 cast_result c = search rules
 
 returns : tie.Need-returns

@@ -12,40 +12,40 @@ use Rattle.numbers.proofs.Spliced.{sets-spliced}
 use Rattle.numbers.proofs.put_four.Statement.{statement}
 use Rattle.numbers.proofs.put_four.Tie as tie
 
-cast_out : tie.Need-overflow-cast-out
+cast_out : tie.Need-overflow_cast-out
 cast_out c = search rules
 
-slice_write_out : tie.Need-slice-write-out
+slice_write_out : tie.Need-bounds-out-at
 slice_write_out c = search rules
 
-cast_out_2 : tie.Need-overflow-cast-out-2
+cast_out_2 : tie.Need-overflow_cast-out-2
 cast_out_2 c = search rules
 
-add_out : tie.Need-overflow-add-out
+add_out : tie.Need-overflow_add-out
 add_out c = search rules
 
-slice_write_out_2 : tie.Need-slice-write-out-2
+slice_write_out_2 : tie.Need-bounds-out-at-2
 slice_write_out_2 c = simp length-set (omega arith)
 
-cast_out_3 : tie.Need-overflow-cast-out-3
+cast_out_3 : tie.Need-overflow_cast-out-3
 cast_out_3 c = search rules
 
-add_out_2 : tie.Need-overflow-add-out-2
+add_out_2 : tie.Need-overflow_add-out-2
 add_out_2 c = search rules
 
-slice_write_out_3 : tie.Need-slice-write-out-3
+slice_write_out_3 : tie.Need-bounds-out-at-3
 slice_write_out_3 c = simp length-set (omega arith)
 
-cast_out_4 : tie.Need-overflow-cast-out-4
+cast_out_4 : tie.Need-overflow_cast-out-4
 cast_out_4 c = search rules
 
-add_out_3 : tie.Need-overflow-add-out-3
+add_out_3 : tie.Need-overflow_add-out-3
 add_out_3 c = search rules
 
-slice_write_out_4 : tie.Need-slice-write-out-4
+slice_write_out_4 : tie.Need-bounds-out-at-4
 slice_write_out_4 c = simp length-set (omega arith)
 
-same_length : tie.Need-same-length
+same_length : tie.Need-shape_of-out
 same_length c = search rules
 
 returns : tie.Need-returns

@@ -12,22 +12,22 @@ use Rattle.numbers.proofs.Spliced.{sets-spliced}
 use Rattle.numbers.proofs.put_two.Statement.{statement}
 use Rattle.numbers.proofs.put_two.Tie as tie
 
-cast_out : tie.Need-overflow-cast-out
+cast_out : tie.Need-overflow_cast-out
 cast_out c = search rules
 
-slice_write_out : tie.Need-slice-write-out
+slice_write_out : tie.Need-bounds-out-at
 slice_write_out c = search rules
 
-cast_out_2 : tie.Need-overflow-cast-out-2
+cast_out_2 : tie.Need-overflow_cast-out-2
 cast_out_2 c = search rules
 
-add_out : tie.Need-overflow-add-out
+add_out : tie.Need-overflow_add-out
 add_out c = search rules
 
-slice_write_out_2 : tie.Need-slice-write-out-2
+slice_write_out_2 : tie.Need-bounds-out-at-2
 slice_write_out_2 c = simp length-set (omega arith)
 
-same_length : tie.Need-same-length
+same_length : tie.Need-shape_of-out
 same_length c = search rules
 
 returns : tie.Need-returns
@@ -37,7 +37,7 @@ returns c =
     let first : x / 256 % 256 ≡ x / 256 = omega arith in
     rw (first, add-one) (sets-spliced c.args.out.now c.args.at (x / 256 ∷ x % 256 ∷ []) (omega arith))
 
-pub put-two_spec : {M : Type 1} → statement M
-put-two_spec =
+pub put_two_spec : {M : Type 1} → statement M
+put_two_spec =
     tie.close
     (tie.spec cast_out slice_write_out cast_out_2 add_out slice_write_out_2 same_length returns)

@@ -7,23 +7,23 @@ use Rattle.numbers.proofs.Signed.{signed_low, minus-fits, signed_high}
 use Rattle.numbers.proofs.signed_of.Statement.{statement}
 use Rattle.numbers.proofs.signed_of.Tie as tie
 
-cast_result : tie.Need-overflow-cast-result
+cast_result : tie.Need-overflow_cast-result
 cast_result c = search rules
 
-sub_k : tie.Need-overflow-sub-k
+sub_k : tie.Need-overflow_sub-k
 sub_k c = search rules
 
-cast_result_2 : tie.Need-overflow-cast-result-2
+cast_result_2 : tie.Need-overflow_cast-result-else-n-lt9223372036854775808
 cast_result_2 c = search rules
 
-sub_result : tie.Need-overflow-sub-result
+sub_result : tie.Need-overflow_sub-result
 sub_result c = minus-fits (0xffff_ffff_ffff_ffff - c.before.args.n) (omega arith)
 
-returns : tie.Need-returns
-returns c = signed_low c.before.args.n c.if1.true
+returns : tie.Need-returns-then-n-lt9223372036854775808
+returns c = signed_low c.before.args.n c.if-n-lt9223372036854775808.true
 
-returns_2 : tie.Need-returns-2
-returns_2 c = signed_high c.before.args.n c.before.ranges.n c.if1.false
+returns_2 : tie.Need-returns-else-n-lt9223372036854775808
+returns_2 c = signed_high c.before.args.n c.before.ranges.n c.if-n-lt9223372036854775808.false
 
 pub signed_of_spec : {M : Type 1} → statement M
 signed_of_spec = tie.close (tie.spec cast_result sub_k cast_result_2 sub_result returns returns_2)

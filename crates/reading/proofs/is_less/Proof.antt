@@ -6,20 +6,20 @@ use Rattle.reading.proofs.Readings.{is_less-line, isLess-line-after, isLess-colu
 use Rattle.reading.proofs.is_less.Statement.{statement}
 use Rattle.reading.proofs.is_less.Tie as tie
 
-returns : tie.Need-returns
+returns : tie.Need-returns-then-a-b
 returns c = sym (is_less-line _ _ (omega arith))
 
-returns_2 : tie.Need-returns-2
+returns_2 : tie.Need-returns-then-b-a
 returns_2 c = sym (isLess-line-after _ _ (omega arith))
 
-returns_3 : tie.Need-returns-3
+returns_3 : tie.Need-returns-then-a-b-2
 returns_3 c = sym (isLess-column _ _ (omega arith) (omega arith))
 
-returns_4 : tie.Need-returns-4
+returns_4 : tie.Need-returns-then-b-a-2
 returns_4 c = sym (isLess-column-after _ _ (omega arith) (omega arith))
 
-returns_5 : tie.Need-returns-5
+returns_5 : tie.Need-returns
 returns_5 c = sym (isLess-value _ _ (omega arith) (omega arith))
 
-pub is-less_spec : {M : Type 1} → statement M
-is-less_spec = tie.close (tie.spec returns returns_2 returns_3 returns_4 returns_5)
+pub is_less_spec : {M : Type 1} → statement M
+is_less_spec = tie.close (tie.spec returns returns_2 returns_3 returns_4 returns_5)

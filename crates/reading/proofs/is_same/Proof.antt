@@ -5,14 +5,14 @@ use Rattle.reading.proofs.Readings.{isSame-line, isSame-column, isSame-value}
 use Rattle.reading.proofs.is_same.Statement.{statement}
 use Rattle.reading.proofs.is_same.Tie as tie
 
-returns : tie.Need-returns
-returns c = sym (isSame-line _ _ c.if1.true)
+returns : tie.Need-returns-then-a-b
+returns c = sym (isSame-line _ _ c.if-a-b.true)
 
-returns_2 : tie.Need-returns-2
-returns_2 c = sym (isSame-column _ _ c.before.before.before.if1.false c.if2.true)
+returns_2 : tie.Need-returns-then-a-b-2
+returns_2 c = sym (isSame-column _ _ c.before.before.before.if-a-b.false c.if-a-b-2.true)
 
-returns_3 : tie.Need-returns-3
+returns_3 : tie.Need-returns
 returns_3 c = sym (isSame-value _ _ (omega arith) (omega arith))
 
-pub is-same_spec : {M : Type 1} → statement M
-is-same_spec = tie.close (tie.spec returns returns_2 returns_3)
+pub is_same_spec : {M : Type 1} → statement M
+is_same_spec = tie.close (tie.spec returns returns_2 returns_3)

@@ -6,25 +6,25 @@ use borrow.Author.Rules.{rules}
 use Rattle.reading.proofs.put_reading.Statement.{statement}
 use Rattle.reading.proofs.put_reading.Tie as tie
 
-mul_at : tie.Need-overflow-mul-at
+mul_at : tie.Need-overflow_mul-at
 mul_at c = search rules
 
-put_four_requires : tie.Need-put-four-requires
+put_four_requires : tie.Need-put_four-requires
 put_four_requires c κs = search rules
 
-add-put_four : tie.Need-overflow-add-put-four
+add-put_four : tie.Need-overflow_add-at
 add-put_four c = search rules
 
-put_four_requires_2 : tie.Need-put-four-requires-2
+put_four_requires_2 : tie.Need-put_four-requires-2
 put_four_requires_2 c κs = search rules
 
-add-put_four_2 : tie.Need-overflow-add-put-four-2
+add-put_four_2 : tie.Need-overflow_add-at-2
 add-put_four_2 c = search rules
 
-put_four_requires_3 : tie.Need-put-four-requires-3
+put_four_requires_3 : tie.Need-put_four-requires-3
 put_four_requires_3 c κs = search rules
 
-same_length : tie.Need-same-length
+same_length : tie.Need-shape_of-bytes
 same_length c = search rules
 
 returns : tie.Need-returns
@@ -33,10 +33,10 @@ returns c =
     let three = c.before.before in
     let two = three.before.before.before.before in
     let one = two.before.before.before.before in
-    reading_bytes-spliced a.bytes.now one.put_four.new.0 two.put-four2.new.0 three.put-four3.new.0 (a.i * 12) a.r (omega arith) one.put_four.ensures two.put-four2.ensures three.put-four3.ensures
+    reading_bytes-spliced a.bytes-1.now one.put_four.new.0 two.put_four-2.new.0 three.put_four-3.new.0 (a.i * 12) a.r (omega arith) one.put_four.ensures two.put_four-2.ensures three.put_four-3.ensures
 
-pub put-reading_spec : {M : Type 1} → statement M
-put-reading_spec =
+pub put_reading_spec : {M : Type 1} → statement M
+put_reading_spec =
     tie.close
     (tie.spec
     mul_at

@@ -4,13 +4,13 @@ use Rattle.book.specs.Judgement.{unfinished}
 use Rattle.book.proofs.judgement.is_unfinished.Statement.{statement}
 use Rattle.book.proofs.judgement.is_unfinished.Tie as tie
 
-returns : tie.Need-returns
+returns : tie.Need-returns-then-s-eq0
 unfolding unfinished
-returns c = simp (eq-eqb _ _ c.if1.true)
+returns c = simp (eq-eqb _ _ c.if-s-eq0.true)
 
-returns_2 : tie.Need-returns-2
+returns_2 : tie.Need-returns
 unfolding unfinished
-returns_2 c = simp (ne_eqb _ _ c.before.if1.false)
+returns_2 c = simp (ne_eqb _ _ c.before.if-s-eq0.false)
 
-pub is-unfinished_spec : {M : Type 1} → statement M
-is-unfinished_spec = tie.close (tie.spec returns returns_2)
+pub is_unfinished_spec : {M : Type 1} → statement M
+is_unfinished_spec = tie.close (tie.spec returns returns_2)

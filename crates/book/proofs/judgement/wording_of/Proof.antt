@@ -5,31 +5,31 @@ use Rattle.book.specs.Judgement.{wording_of}
 use Rattle.book.proofs.judgement.wording_of.Statement.{statement}
 use Rattle.book.proofs.judgement.wording_of.Tie as tie
 
-sub_result : tie.Need-overflow-sub-result
+sub_result : tie.Need-slice_bounds-result-count
 sub_result c = search rules
 
-part-result-start : tie.Need-slice-bounds-result-start
+part-result-start : tie.Need-slice_bounds-result-start
 part-result-start c = search rules
 
-part-result-end : tie.Need-slice-bounds-result-end
+part-result-end : tie.Need-slice_bounds-result-end
 part-result-end c = search rules
 
-returns : tie.Need-returns
+returns : tie.Need-returns-then-body-lt26
 unfolding wording_of
-returns c = simp (lt-leb _ _ c.before.if1.true)
+returns c = simp (lt-leb _ _ c.before.if-body-lt26.true)
 
-sub_result_2 : tie.Need-overflow-sub-result-2
+sub_result_2 : tie.Need-slice_bounds-result-count-2
 sub_result_2 c = search rules
 
-part-result-start_2 : tie.Need-slice-bounds-result-start-2
+part-result-start_2 : tie.Need-slice_bounds-result-start-2
 part-result-start_2 c = search rules
 
-part-result-end_2 : tie.Need-slice-bounds-result-end-2
+part-result-end_2 : tie.Need-slice_bounds-result-end-2
 part-result-end_2 c = search rules
 
-returns_2 : tie.Need-returns-2
+returns_2 : tie.Need-returns
 unfolding wording_of
-returns_2 c = simp (le-leb _ _ c.before.if1.false)
+returns_2 c = simp (le-leb _ _ c.before.if-body-lt26.false)
 
 pub wording_of_spec : {M : Type 1} → statement M
 wording_of_spec =

@@ -14,70 +14,70 @@ use native.Mathlib.Omega.{arith}
 use Rattle.book.proofs.reader.find_places.Statement.{statement}
 use Rattle.book.proofs.reader.find_places.Tie as tie
 
-abbrev invariant_loop : tie.invariant-loop
+abbrev invariant_loop : tie.invariant-loop-record
 invariant_loop book at₀ standing₀ places₀ at standing places = (length book ≤ 8192) × ((at ≤ length book) × Reached book at standing places)
 
-abbrev decreases_loop : tie.decreases-loop
+abbrev decreases_loop : tie.decreases-loop-record
 decreases_loop book at₀ standing₀ places₀ at standing places = length book - at
 
-no_places_requires : tie.Need-no-places-requires invariant_loop decreases_loop
+no_places_requires : tie.Need-no_places-requires invariant_loop decreases_loop
 no_places_requires c κs = search rules
 
-returns : tie.Need-returns invariant_loop decreases_loop
-returns c = read_too_long c.before.before.before.args.book.now (omega arith) c.no-places.result c.no-places.ensures
+returns : tie.Need-returns-then-book-gt-MOST_BYTES invariant_loop decreases_loop
+returns c = read_too_long c.before.before.before.args.book.now (omega arith) c.no_places.result c.no_places.ensures
 
-no_places_requires_2 : tie.Need-no-places-requires-2 invariant_loop decreases_loop
+no_places_requires_2 : tie.Need-no_places-places-requires invariant_loop decreases_loop
 no_places_requires_2 c κs = search rules
 
-loop_holds : tie.Need-loop-init invariant_loop decreases_loop
+loop_holds : tie.Need-loop-record-init invariant_loop decreases_loop
 unfolding standing last_or no_rule condition_count
 loop_holds c =
     let book = c.before.before.before.args.book.now in
     let short : length book ≤ 8192 = omega arith in
-    (short, (omega arith, reached-start book short _ _ refl c.no-places2.ensures))
+    (short, (omega arith, reached-start book short _ _ refl c.no_places-places.ensures))
 
-read_record_requires : tie.Need-read-record-requires invariant_loop decreases_loop
+read_record_requires : tie.Need-read_record-step-requires invariant_loop decreases_loop
 read_record_requires c κs = search rules
 
-enum_known_step : tie.Need-enum-known-step invariant_loop decreases_loop
+enum_known_step : tie.Need-enum_known-step invariant_loop decreases_loop
 enum_known_step c = search rules
 
-enum_told : tie.Need-enum-told invariant_loop decreases_loop
+enum_told : tie.Need-enum_told-1 invariant_loop decreases_loop
 enum_told c = search rules
 
 close_requires : tie.Need-close-requires invariant_loop decreases_loop
 close_requires c κs = search rules
 
-returns_2 : tie.Need-returns-2 invariant_loop decreases_loop
+returns_2 : tie.Need-returns-in_default invariant_loop decreases_loop
 returns_2 c =
-    let l = c.before.before.before.before.loop in
-    let e : _ ≡ Over _ = c.before.enum_told.given.1 in
+    let l = c.before.before.before.before.loop-record in
+    let e : _ ≡ Over _ = c.before.enum_told-1.given.1 in
     c.close.ensures
     ∙ ap (λ (s : Step). closed s l.places) e
-    ∙ reached-over c.before.before.before.before.before.before.before.before.args.book.now l.at l.standing l.places l.invariant.1.1 _ (sym c.before.before.before.read-record.ensures ∙ e)
+    ∙ reached-over c.before.before.before.before.before.before.before.before.args.book.now l.at l.standing l.places l.invariant.1.1 _ (sym c.before.before.before.read_record-step.ensures ∙ e)
 
 -- a record that is taken leads onward
-onward : (c : tie.After-known-told invariant_loop decreases_loop)
-    → let l = c.before.before.before.before.loop in Onward c.before.before.before.before.before.before.before.before.args.book.now l.at l.standing l.places l.invariant.1.1 c.before.step.given.0.0 c.before.step.given.0.1.0
+onward : (c : tie.In-On invariant_loop decreases_loop)
+    → let l = c.before.before.before.before.loop-record in Onward c.before.before.before.before.before.before.before.before.args.book.now l.at l.standing l.places l.invariant.1.1 c.before.step-1.given.0.0 c.before.step-1.given.0.1.0
 onward c =
-    let l = c.before.before.before.before.loop in
-    reached-on c.before.before.before.before.before.before.before.before.args.book.now l.at l.standing l.places l.invariant.1.1 _ _ (sym c.before.before.before.read-record.ensures ∙ c.before.step.given.1)
+    let l = c.before.before.before.before.loop-record in
+    reached-on c.before.before.before.before.before.before.before.before.args.book.now l.at l.standing l.places l.invariant.1.1 _ _ (sym c.before.before.before.read_record-step.ensures ∙ c.before.step-1.given.1)
 
-note_requires : tie.Need-note-requires invariant_loop decreases_loop
-note_requires c κs = let h = (onward c).1 in omega (arith, c.before.before.before.before.loop.invariant)
+note_requires : tie.Need-note-places-requires invariant_loop decreases_loop
+note_requires c κs = let h = (onward c).1 in omega (arith, c.before.before.before.before.loop-record.invariant)
 
-stood_requires : tie.Need-stood-requires invariant_loop decreases_loop
-stood_requires c κs = bounded_within _ c.before.before.before.before.before.loop.invariant.1.1.kept
+stood_requires : tie.Need-stood-standing-requires invariant_loop decreases_loop
+stood_requires c κs = bounded_within _ c.before.before.before.before.before.loop-record.invariant.1.1.kept
 
-loop_less : tie.Need-loop-smaller invariant_loop decreases_loop
+loop_less : tie.Need-loop-record-smaller invariant_loop decreases_loop
 loop_less c = let h = (onward c.before.before).1 in omega arith
 
-loop_again : tie.Need-loop-preserved invariant_loop decreases_loop
+loop_again : tie.Need-loop-record-preserved invariant_loop decreases_loop
 loop_again c =
     let h = onward c.before.before in
-    let l = c.before.before.before.before.before.before.loop in
-    let s : c.stood.result ≡ after l.standing c.before.before.before.step.given.0.0 = c.stood.ensures in
-    let p : c.before.note.result ≡ noted l.places l.standing c.before.before.before.step.given.0.0 l.at = c.before.note.ensures in
+    let l = c.before.before.before.before.before.before.loop-record in
+    let s : c.stood-standing.result ≡ after l.standing c.before.before.before.step-1.given.0.0 = c.stood-standing.ensures in
+    let p : c.before.note-places.result ≡ noted l.places l.standing c.before.before.before.step-1.given.0.0 l.at = c.before.note-places.ensures in
     (l.invariant.0, (h.1.1, rw (s, p) h.0))
 
 pub find_places_spec : {M : Type 1} → statement M

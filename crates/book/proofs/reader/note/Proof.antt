@@ -6,46 +6,46 @@ use borrow.Author.Rules.{rules}
 use Rattle.book.proofs.reader.note.Statement.{statement}
 use Rattle.book.proofs.reader.note.Tie as tie
 
-enum_told : tie.Need-enum-told
+enum_told : tie.Need-enum_told-1
 enum_told c = search rules
 
-note_rule_requires : tie.Need-note-rule-requires
+note_rule_requires : tie.Need-note_rule-requires
 note_rule_requires c κs = search rules
 
-enum_told_2 : tie.Need-enum-told-2
+enum_told_2 : tie.Need-enum_told-in-Condition
 enum_told_2 c = search rules
 
-note_condition_requires : tie.Need-note-condition-requires
+note_condition_requires : tie.Need-note_condition-requires
 note_condition_requires c κs = search rules
 
-enum_told_3 : tie.Need-enum-told-3
+enum_told_3 : tie.Need-enum_told-in-Test
 enum_told_3 c = search rules
 
-enum_told_4 : tie.Need-enum-told-4
+enum_told_4 : tie.Need-enum_told-in-End
 enum_told_4 c = search rules
 
-enum_told_5 : tie.Need-enum-told-5
+enum_told_5 : tie.Need-enum_told-in-Refused
 enum_told_5 c = search rules
 
-returns : tie.Need-returns
+returns : tie.Need-returns-in-Rule
 unfolding noted
-returns c = let a = c.before.before.before.args in c.note-rule.ensures ∙ sym (ap (λ (r : Record). noted a.p a.s r a.at) c.before.enum_told.given.1)
+returns c = let a = c.before.before.before.args in c.note_rule.ensures ∙ sym (ap (λ (r : Record). noted a.p a.s r a.at) c.before.enum_told-1.given.1)
 
-returns_2 : tie.Need-returns-2
+returns_2 : tie.Need-returns-in-Condition
 unfolding noted
-returns_2 c = let a = c.before.before.before.args in c.note-condition.ensures ∙ sym (ap (λ (r : Record). noted a.p a.s r a.at) c.before.enum-told2.given.1)
+returns_2 c = let a = c.before.before.before.args in c.note_condition.ensures ∙ sym (ap (λ (r : Record). noted a.p a.s r a.at) c.before.enum_told-in-Condition-1.given.1)
 
-returns_3 : tie.Need-returns-3
+returns_3 : tie.Need-returns-in-Test
 unfolding noted
-returns_3 c = let a = c.before.before.args in sym (ap (λ (r : Record). noted a.p a.s r a.at) c.enum-told3.given.1)
+returns_3 c = let a = c.before.before.args in sym (ap (λ (r : Record). noted a.p a.s r a.at) c.enum_told-in-Test-1.given.1)
 
-returns_4 : tie.Need-returns-4
+returns_4 : tie.Need-returns-in-End
 unfolding noted
-returns_4 c = let a = c.before.before.args in sym (ap (λ (r : Record). noted a.p a.s r a.at) c.enum-told4.given.1)
+returns_4 c = let a = c.before.before.args in sym (ap (λ (r : Record). noted a.p a.s r a.at) c.enum_told-in-End-1.given.1)
 
-returns_5 : tie.Need-returns-5
+returns_5 : tie.Need-returns-in-Refused
 unfolding noted
-returns_5 c = let a = c.before.before.args in sym (ap (λ (r : Record). noted a.p a.s r a.at) c.enum-told5.given.1)
+returns_5 c = let a = c.before.before.args in sym (ap (λ (r : Record). noted a.p a.s r a.at) c.enum_told-in-Refused-1.given.1)
 
 pub note_spec : {M : Type 1} → statement M
 note_spec =

@@ -5,49 +5,49 @@ use borrow.Author.Rules.{rules}
 use Rattle.book.proofs.reader.note_condition.Statement.{statement}
 use Rattle.book.proofs.reader.note_condition.Tie as tie
 
-returns : tie.Need-returns
+returns : tie.Need-returns-then-n-eq0
 unfolding condition_noted
-returns c = simp (eq-eqb _ _ c.if1.true)
+returns c = simp (eq-eqb _ _ c.if-n-eq0.true)
 
-returns_2 : tie.Need-returns-2
+returns_2 : tie.Need-returns-then-n-gt32
 unfolding condition_noted
-returns_2 c = simp (ne_eqb _ _ c.before.if1.false, lt-ltb _ _ c.if2.true)
+returns_2 c = simp (ne_eqb _ _ c.before.if-n-eq0.false, lt-ltb _ _ c.if-n-gt32.true)
 
-returns_3 : tie.Need-returns-3
+returns_3 : tie.Need-returns-then-c-ge6
 unfolding condition_noted
-returns_3 c = simp (ne_eqb _ _ c.before.before.if1.false, le-ltb _ _ c.before.if2.false, le-leb _ _ c.if3.true)
+returns_3 c = simp (ne_eqb _ _ c.before.before.if-n-eq0.false, le-ltb _ _ c.before.if-n-gt32.false, le-leb _ _ c.if-c-ge6.true)
 
-returns_4 : tie.Need-returns-4
+returns_4 : tie.Need-returns-then-j-ge192
 unfolding condition_noted
-returns_4 c = simp (ne_eqb _ _ c.before.before.before.if1.false, le-ltb _ _ c.before.before.if2.false, lt-leb _ _ c.before.if3.false, le-leb _ _ c.if4.true)
+returns_4 c = simp (ne_eqb _ _ c.before.before.before.if-n-eq0.false, le-ltb _ _ c.before.before.if-n-gt32.false, lt-leb _ _ c.before.if-c-ge6.false, le-leb _ _ c.if-j-ge192.true)
 
-sub_i : tie.Need-overflow-sub-i
+sub_i : tie.Need-overflow_sub-i
 sub_i c = search rules
 
-add_q : tie.Need-overflow-add-q
+add_q : tie.Need-overflow_add-q
 add_q c = search rules
 
-cast_q : tie.Need-overflow-cast-q
+cast_q : tie.Need-overflow_cast-q
 cast_q c = search rules
 
-element_write_q : tie.Need-element-write-q
+element_write_q : tie.Need-bounds-q-i
 element_write_q c = search rules
 
-add_q_2 : tie.Need-overflow-add-q-2
+add_q_2 : tie.Need-overflow_add-q-2
 add_q_2 c = search rules
 
-cast_q_2 : tie.Need-overflow-cast-q-2
+cast_q_2 : tie.Need-overflow_cast-q-2
 cast_q_2 c = search rules
 
-mul_q : tie.Need-overflow-mul-q
+mul_q : tie.Need-offset_bounds-q-j
 mul_q c = search rules
 
-element_write_q_2 : tie.Need-element-write-q-2
+element_write_q_2 : tie.Need-bounds-q-j
 element_write_q_2 c = search rules
 
-returns_5 : tie.Need-returns-5
+returns_5 : tie.Need-returns
 unfolding condition_noted
-returns_5 c = simp (ne_eqb _ _ c.before.before.before.if1.false, le-ltb _ _ c.before.before.if2.false, lt-leb _ _ c.before.if3.false, lt-leb _ _ c.if4.false)
+returns_5 c = simp (ne_eqb _ _ c.before.before.before.if-n-eq0.false, le-ltb _ _ c.before.before.if-n-gt32.false, lt-leb _ _ c.before.if-c-ge6.false, lt-leb _ _ c.if-j-ge192.false)
 
 pub note_condition_spec : {M : Type 1} → statement M
 note_condition_spec =

@@ -6,12 +6,12 @@ use borrow.Author.Rules.{rules}
 use Rattle.book.proofs.reader.read.Statement.{statement}
 use Rattle.book.proofs.reader.read.Tie as tie
 
-find_places_requires : tie.Need-find-places-requires
+find_places_requires : tie.Need-find_places-found-requires
 find_places_requires c κs = search rules
 
 returns : tie.Need-returns
 unfolding placed_of
-returns c = ap (λ (p : Placed). p.answer) c.find-places.ensures
+returns c = ap (λ (p : Placed). p.answer) c.find_places-found.ensures
 
 pub read_spec : {M : Type 1} → statement M
 read_spec = tie.close (tie.spec find_places_requires returns)

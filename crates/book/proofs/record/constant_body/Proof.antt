@@ -6,25 +6,25 @@ use Rattle.book.proofs.RecordLaws.{whole-cut, whole_is}
 use Rattle.book.proofs.record.constant_body.Statement.{statement}
 use Rattle.book.proofs.record.constant_body.Tie as tie
 
-returns : tie.Need-returns
+returns : tie.Need-returns-then-body-lt6
 unfolding constant_body
-returns c = whole-cut _ _ _ _ c.if1.true
+returns c = whole-cut _ _ _ _ c.if-body-lt6.true
 
-uint-at_requires : tie.Need-uint-at-requires
+uint-at_requires : tie.Need-uint_at-number-requires
 uint-at_requires c κs = search rules
 
-cast_number : tie.Need-overflow-cast-number
+cast_number : tie.Need-overflow_cast-number
 cast_number c = search rules
 
-shared_slice_read_t8 : tie.Need-shared-slice-read-t8
+shared_slice_read_t8 : tie.Need-bounds-body-0
 shared_slice_read_t8 c = search rules
 
-shared_slice_read_t10 : tie.Need-shared-slice-read-t10
+shared_slice_read_t10 : tie.Need-bounds-body-1
 shared_slice_read_t10 c = search rules
 
-returns_2 : tie.Need-returns-2
+returns_2 : tie.Need-returns
 unfolding constant_body
-returns_2 c = rw c.before.before.uint-at.ensures.0 (whole_is _ _ _ _ c.before.before.before.if1.false)
+returns_2 c = rw c.before.before.uint_at-number.ensures.0 (whole_is _ _ _ _ c.before.before.before.if-body-lt6.false)
 
 pub constant_body_spec : {M : Type 1} → statement M
 constant_body_spec =

@@ -11,37 +11,37 @@ use Rattle.book.proofs.RecordLaws.{whole-cut, gap_body-is}
 use Rattle.book.proofs.record.gap_body.Statement.{statement}
 use Rattle.book.proofs.record.gap_body.Tie as tie
 
-returns : tie.Need-returns
+returns : tie.Need-returns-then-body-lt19
 unfolding gap_body
-returns c = whole-cut _ _ _ _ c.if1.true
+returns c = whole-cut _ _ _ _ c.if-body-lt19.true
 
-uint-at_requires : tie.Need-uint-at-requires
+uint-at_requires : tie.Need-uint_at-requires
 uint-at_requires c κs = search rules
 
-signed_of_requires : tie.Need-signed-of-requires
+signed_of_requires : tie.Need-signed_of-low-requires
 signed_of_requires c κs = search rules
 
-uint-at_requires_2 : tie.Need-uint-at-requires-2
+uint-at_requires_2 : tie.Need-uint_at-requires-2
 uint-at_requires_2 c κs = search rules
 
-signed_of_requires_2 : tie.Need-signed-of-requires-2
+signed_of_requires_2 : tie.Need-signed_of-high-requires
 signed_of_requires_2 c κs = search rules
 
-shared_slice_read_t9 : tie.Need-shared-slice-read-t9
+shared_slice_read_t9 : tie.Need-bounds-body-0
 shared_slice_read_t9 c = search rules
 
-shared_slice_read_t11 : tie.Need-shared-slice-read-t11
+shared_slice_read_t11 : tie.Need-bounds-body-1
 shared_slice_read_t11 c = search rules
 
-shared_slice_read_t13 : tie.Need-shared-slice-read-t13
+shared_slice_read_t13 : tie.Need-bounds-body-2
 shared_slice_read_t13 c = search rules
 
-returns_2 : tie.Need-returns-2
+returns_2 : tie.Need-returns
 returns_2 c =
-    let u = c.before.before.before.before.before.before.uint-at in
+    let u = c.before.before.before.before.before.before.uint_at in
     let s = c.before.before.before.before.before.Signed-of in
-    let v = c.before.before.before.before.uint-at2 in
-    let t = c.before.before.before.signed-of2 in
+    let v = c.before.before.before.before.uint_at-2 in
+    let t = c.before.before.before.signed_of-high in
     let a = c.before.before.before.before.before.before.before.before.before.args in
     gap_body-is a.body.now a.at (omega arith) _ _
     (to_z-of_z {w = w64} {z = s.result} (sfits_of s.type-inv) ∙ s.ensures ∙ ap signed u.ensures.0)

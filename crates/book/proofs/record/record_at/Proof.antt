@@ -10,76 +10,76 @@ use Rattle.book.proofs.RecordLaws.{record_at-past, recordAt-kind, recordAt-body,
 use Rattle.book.proofs.record.record_at.Statement.{statement}
 use Rattle.book.proofs.record.record_at.Tie as tie
 
-returns : tie.Need-returns
-returns c = record_at-past _ _ c.if1.true
+returns : tie.Need-returns-then-book-at
+returns c = record_at-past _ _ c.if-book-at.true
 
-shared_slice_read_kind : tie.Need-shared-slice-read-kind
+shared_slice_read_kind : tie.Need-bounds-book-at
 shared_slice_read_kind c = search rules
 
-add_from : tie.Need-overflow-add-from
+add_from : tie.Need-overflow_add-from
 add_from c = search rules
 
-sub_body : tie.Need-overflow-sub-body
+sub_body : tie.Need-slice_bounds-body-count
 sub_body c = search rules
 
-part_body_start : tie.Need-slice-bounds-body-start
+part_body_start : tie.Need-slice_bounds-body-start
 part_body_start c = search rules
 
-part_body_end : tie.Need-slice-bounds-body-end
+part_body_end : tie.Need-slice_bounds-body-end
 part_body_end c = search rules
 
-rule_body_requires : tie.Need-rule-body-requires
+rule_body_requires : tie.Need-rule_body-requires
 rule_body_requires c κs = search rules
 
-constant_body_requires : tie.Need-constant-body-requires
+constant_body_requires : tie.Need-constant_body-requires
 constant_body_requires c κs = search rules
 
-position_body_requires : tie.Need-position-body-requires
+position_body_requires : tie.Need-position_body-requires
 position_body_requires c κs = search rules
 
-gap_body_requires : tie.Need-gap-body-requires
+gap_body_requires : tie.Need-gap_body-requires
 gap_body_requires c κs = search rules
 
-returns_2 : tie.Need-returns-2
+returns_2 : tie.Need-returns-in-1
 unfolding by_kind
 returns_2 c =
     let a = c.before.before.before.before.before.before.args in
-    recordAt-body a.book.now a.at (omega arith) rule_body 1 c.rule-body.result (λ b. refl) c.before.match.keys1 c.rule-body.ensures
+    recordAt-body a.book.now a.at (omega arith) rule_body 1 c.rule_body.result (λ b. refl) c.before.in-1.keys1 c.rule_body.ensures
 
-returns_3 : tie.Need-returns-3
+returns_3 : tie.Need-returns-in-2
 unfolding by_kind
 returns_3 c =
     let a = c.before.before.before.before.before.args in
-    recordAt-kind a.book.now a.at (omega arith) 2 c.match.keys2
+    recordAt-kind a.book.now a.at (omega arith) 2 c.in-2.keys2
 
-returns_4 : tie.Need-returns-4
+returns_4 : tie.Need-returns-in-3
 unfolding by_kind
 returns_4 c =
     let a = c.before.before.before.before.before.before.args in
-    recordAt-body a.book.now a.at (omega arith) constant_body 3 c.constant-body.result (λ b. refl) c.before.match.keys3 c.constant-body.ensures
+    recordAt-body a.book.now a.at (omega arith) constant_body 3 c.constant_body.result (λ b. refl) c.before.in-3.keys3 c.constant_body.ensures
 
-returns_5 : tie.Need-returns-5
+returns_5 : tie.Need-returns-in-4
 unfolding by_kind
 returns_5 c =
     let a = c.before.before.before.before.before.before.args in
-    recordAt-body a.book.now a.at (omega arith) position_body 4 c.position-body.result (λ b. refl) c.before.match.keys4 c.position-body.ensures
+    recordAt-body a.book.now a.at (omega arith) position_body 4 c.position_body.result (λ b. refl) c.before.in-4.keys4 c.position_body.ensures
 
-returns_6 : tie.Need-returns-6
+returns_6 : tie.Need-returns-in-5
 unfolding by_kind
 returns_6 c =
     let a = c.before.before.before.before.before.before.args in
-    recordAt-body a.book.now a.at (omega arith) gap_body 5 c.gap-body.result (λ b. refl) c.before.match.keys5 c.gap-body.ensures
+    recordAt-body a.book.now a.at (omega arith) gap_body 5 c.gap_body.result (λ b. refl) c.before.in-5.keys5 c.gap_body.ensures
 
-returns_7 : tie.Need-returns-7
+returns_7 : tie.Need-returns-in-9
 unfolding by_kind
 returns_7 c =
     let a = c.before.before.before.before.before.args in
-    recordAt-kind a.book.now a.at (omega arith) 9 c.match.keys6
+    recordAt-kind a.book.now a.at (omega arith) 9 c.in-9.keys6
 
-returns_8 : tie.Need-returns-8
+returns_8 : tie.Need-returns-in_default
 returns_8 c =
     let a = c.before.before.before.before.before.args in
-    let r = c.match.rest in
+    let r = c.in_default.rest in
     let k = get_or a.book.now a.at 0 in
     by_kind-unknown k (drop (a.at + 1) a.book.now) a.at r.0.0.0.0.0.1 r.0.0.0.0.1 r.0.0.0.1 r.0.0.1 r.0.1 r.1
     ∙ recordAt-kind a.book.now a.at (omega arith) k refl

@@ -6,19 +6,19 @@ use Rattle.book.proofs.RecordLaws.{whole-cut, whole_is}
 use Rattle.book.proofs.record.rule_body.Statement.{statement}
 use Rattle.book.proofs.record.rule_body.Tie as tie
 
-returns : tie.Need-returns
+returns : tie.Need-returns-then-body-lt26
 unfolding rule_body
-returns c = whole-cut _ _ _ _ c.if1.true
+returns c = whole-cut _ _ _ _ c.if-body-lt26.true
 
-uint-at_requires : tie.Need-uint-at-requires
+uint-at_requires : tie.Need-uint_at-number-requires
 uint-at_requires c κs = search rules
 
-cast_number : tie.Need-overflow-cast-number
+cast_number : tie.Need-overflow_cast-number
 cast_number c = search rules
 
-returns_2 : tie.Need-returns-2
+returns_2 : tie.Need-returns
 unfolding rule_body
-returns_2 c = rw c.uint-at.ensures.0 (whole_is _ _ _ _ c.before.if1.false)
+returns_2 c = rw c.uint_at-number.ensures.0 (whole_is _ _ _ _ c.before.if-body-lt26.false)
 
 pub rule_body_spec : {M : Type 1} → statement M
 rule_body_spec = tie.close (tie.spec returns uint-at_requires cast_number returns_2)

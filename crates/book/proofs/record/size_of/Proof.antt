@@ -6,43 +6,43 @@ use Rattle.book.specs.Record.{size_of}
 use Rattle.book.proofs.record.size_of.Statement.{statement}
 use Rattle.book.proofs.record.size_of.Tie as tie
 
-enum_told : tie.Need-enum-told
+enum_told : tie.Need-enum_told-1
 enum_told c = search rules
 
-enum_told_2 : tie.Need-enum-told-2
+enum_told_2 : tie.Need-enum_told-in-Condition
 enum_told_2 c = search rules
 
-enum_known_r : tie.Need-enum-known-r
+enum_known_r : tie.Need-enum_known-r
 enum_known_r c = search rules
 
-test_size_requires : tie.Need-test-size-requires
+test_size_requires : tie.Need-test_size-requires
 test_size_requires c κs = search rules
 
-enum_told_3 : tie.Need-enum-told-3
+enum_told_3 : tie.Need-enum_told-in-End
 enum_told_3 c = search rules
 
-enum_told_4 : tie.Need-enum-told-4
+enum_told_4 : tie.Need-enum_told-in-Refused
 enum_told_4 c = search rules
 
-returns : tie.Need-returns
+returns : tie.Need-returns-in-Rule
 unfolding size_of
-returns c = sym (ap size_of c.enum_told.given.1)
+returns c = sym (ap size_of c.enum_told-1.given.1)
 
-returns_2 : tie.Need-returns-2
+returns_2 : tie.Need-returns-in-Condition
 unfolding size_of
-returns_2 c = sym (ap size_of c.enum-told2.given.1)
+returns_2 c = sym (ap size_of c.enum_told-in-Condition-1.given.1)
 
-returns_3 : tie.Need-returns-3
+returns_3 : tie.Need-returns-in-Test
 unfolding size_of
-returns_3 c = ap Bytes c.test-size.ensures ∙ sym (ap size_of c.before.before.r.given.1)
+returns_3 c = ap Bytes c.test_size.ensures ∙ sym (ap size_of c.before.before.r-1.given.1)
 
-returns_4 : tie.Need-returns-4
+returns_4 : tie.Need-returns-in-End
 unfolding size_of
-returns_4 c = sym (ap size_of c.enum-told3.given.1)
+returns_4 c = sym (ap size_of c.enum_told-in-End-1.given.1)
 
-returns_5 : tie.Need-returns-5
+returns_5 : tie.Need-returns-in-Refused
 unfolding size_of
-returns_5 c = sym (ap size_of c.enum-told4.given.1)
+returns_5 c = sym (ap size_of c.enum_told-in-Refused-1.given.1)
 
 pub size_of_spec : {M : Type 1} → statement M
 size_of_spec =

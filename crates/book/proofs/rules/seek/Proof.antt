@@ -10,10 +10,10 @@ use Rattle.book.proofs.Sought.{sought-here, sought-on, sought-over}
 use Rattle.book.proofs.rules.seek.Statement.{statement}
 use Rattle.book.proofs.rules.seek.Tie as tie
 
-abbrev invariant_loop : tie.invariant-loop
+abbrev invariant_loop : tie.invariant-loop-i
 invariant_loop book rules number at i₀ i = (i ≤ rules) × (sought book (take rules at) number ≡ sought book (drop i (take rules at)) number)
 
-abbrev decreases_loop : tie.decreases-loop
+abbrev decreases_loop : tie.decreases-loop-i
 decreases_loop book rules number at i₀ i = rules - i
 
 -- the array has so many places, and each one's record is within the book
@@ -23,53 +23,53 @@ places-long s = search rules
 enough : (s : tie.Start invariant_loop decreases_loop) → s.args.rules ≤ length s.args.t2
 enough s = omega (arith, places-long s, s.requires.0)
 
-within : (c : tie.In-loop invariant_loop decreases_loop) → get_or c.before.before.before.args.t2 c.before.loop.i 0 + 27 ≤ length c.before.before.before.args.book.now
-within c = c.before.before.before.requires.1 c.before.loop.i (omega arith)
+within : (c : tie.In-loop-i invariant_loop decreases_loop) → get_or c.before.before.before.args.t2 c.before.loop-i.i 0 + 27 ≤ length c.before.before.before.args.book.now
+within c = c.before.before.before.requires.1 c.before.loop-i.i (omega arith)
 
-loop_holds : tie.Need-loop-init invariant_loop decreases_loop
+loop_holds : tie.Need-loop-i-init invariant_loop decreases_loop
 loop_holds c = (omega arith, refl)
 
-mul_place : tie.Need-overflow-mul-place invariant_loop decreases_loop
+mul_place : tie.Need-offset_bounds-at-i invariant_loop decreases_loop
 mul_place c = omega (arith, c.before.before.before.requires.0)
 
-array_read-place : tie.Need-array-read-place invariant_loop decreases_loop
+array_read-place : tie.Need-bounds-at-i invariant_loop decreases_loop
 array_read-place c = omega (arith, c.before.before.before.requires.0)
 
-cast_place : tie.Need-overflow-cast-place invariant_loop decreases_loop
+cast_place : tie.Need-overflow_cast-place invariant_loop decreases_loop
 cast_place c = omega (arith, within c)
 
-add-uint-at : tie.Need-overflow-add-uint-at invariant_loop decreases_loop
+add-uint-at : tie.Need-overflow_add-place invariant_loop decreases_loop
 add-uint-at c = omega (arith, within c)
 
-uint-at_requires : tie.Need-uint-at-requires invariant_loop decreases_loop
+uint-at_requires : tie.Need-uint_at-n-requires invariant_loop decreases_loop
 uint-at_requires c κs = omega (arith, within c)
 
-add_t14 : tie.Need-overflow-add-t14 invariant_loop decreases_loop
+add_t14 : tie.Need-overflow_add-result invariant_loop decreases_loop
 add_t14 c = omega (arith, within c.before.before)
 
-returns : tie.Need-returns invariant_loop decreases_loop
+returns : tie.Need-returns-then-n-number invariant_loop decreases_loop
 returns c =
-    let l = c.before.before.before.loop in
+    let l = c.before.before.before.loop-i in
     let s = c.before.before.before.before.before in
-    let u = c.before.uint-at in
-    sym (l.invariant.1 ∙ sought-here _ _ _ (enough s) _ l.i (omega arith) (sym u.ensures.0 ∙ c.if1.true))
+    let u = c.before.uint_at-n in
+    sym (l.invariant.1 ∙ sought-here _ _ _ (enough s) _ l.i (omega arith) (sym u.ensures.0 ∙ c.if-n-number.true))
 
-add_i : tie.Need-overflow-add-i invariant_loop decreases_loop
+add_i : tie.Need-overflow_add-i invariant_loop decreases_loop
 add_i c = omega arith
 
-loop_less : tie.Need-loop-smaller invariant_loop decreases_loop
+loop_less : tie.Need-loop-i-smaller invariant_loop decreases_loop
 loop_less c = omega arith
 
-loop_again : tie.Need-loop-preserved invariant_loop decreases_loop
+loop_again : tie.Need-loop-i-preserved invariant_loop decreases_loop
 loop_again c =
-    let l = c.before.before.before.loop in
+    let l = c.before.before.before.loop-i in
     let s = c.before.before.before.before.before in
-    let u = c.before.uint-at in
-    (omega arith, l.invariant.1 ∙ sought-on _ _ _ (enough s) _ l.i (omega arith) (λ e. c.if1.false (u.ensures.0 ∙ e)))
+    let u = c.before.uint_at-n in
+    (omega arith, l.invariant.1 ∙ sought-on _ _ _ (enough s) _ l.i (omega arith) (λ e. c.if-n-number.false (u.ensures.0 ∙ e)))
 
-returns_2 : tie.Need-returns-2 invariant_loop decreases_loop
+returns_2 : tie.Need-returns invariant_loop decreases_loop
 returns_2 c =
-    let l = c.before.loop in
+    let l = c.before.loop-i in
     let s = c.before.before.before in
     let e : l.i ≡ s.args.rules = omega arith in
     sym (rw e at l.invariant.1 ∙ sought-over _ _ _ (enough s) _)

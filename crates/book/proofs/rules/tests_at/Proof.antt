@@ -10,58 +10,58 @@ use Rattle.book.proofs.TestsFrom.{TestsFilled, no_test_read, test-within, filled
 use Rattle.book.proofs.rules.tests_at.Statement.{statement}
 use Rattle.book.proofs.rules.tests_at.Tie as tie
 
-abbrev invariant_loop : tie.invariant-loop
+abbrev invariant_loop : tie.invariant-loop-n
 invariant_loop book at tests₀ n₀ place₀ tests n place = (n ≤ 8) × TestsFilled book at n place tests
 
-abbrev decreases_loop : tie.decreases-loop
+abbrev decreases_loop : tie.decreases-loop-n
 decreases_loop book at tests₀ n₀ place₀ tests n place = 8 - n
 
-loop_holds : tie.Need-loop-init invariant_loop decreases_loop
+loop_holds : tie.Need-loop-n-init invariant_loop decreases_loop
 loop_holds c = (omega arith, filled_none _ _)
 
-record_at_requires : tie.Need-record-at-requires invariant_loop decreases_loop
+record_at_requires : tie.Need-record_at-r-requires invariant_loop decreases_loop
 record_at_requires c κs = tt
 
-enum_known_r : tie.Need-enum-known-r invariant_loop decreases_loop
+enum_known_r : tie.Need-enum_known-r invariant_loop decreases_loop
 enum_known_r c = search rules
 
-returns : tie.Need-returns invariant_loop decreases_loop
+returns : tie.Need-returns-in_default invariant_loop decreases_loop
 returns c =
-    filled-over _ _ _ _ _ c.before.before.before.loop.invariant.1 (no_test_read _ _ _ c.before.record-at.ensures c.match.keys2)
+    filled-over _ _ _ _ _ c.before.before.before.loop-n.invariant.1 (no_test_read _ _ _ c.before.record_at-r.ensures c.in_default.keys2)
 
-mul_tests : tie.Need-overflow-mul-tests invariant_loop decreases_loop
+mul_tests : tie.Need-offset_bounds-tests-n invariant_loop decreases_loop
 mul_tests c = omega arith
 
-array_set_from_tests : tie.Need-array-set-from-tests invariant_loop decreases_loop
+array_set_from_tests : tie.Need-bounds-tests-n invariant_loop decreases_loop
 array_set_from_tests c = omega arith
 
-test_size_requires : tie.Need-test-size-requires invariant_loop decreases_loop
+test_size_requires : tie.Need-test_size-place-requires invariant_loop decreases_loop
 test_size_requires c κs = tt
 
 -- the record just read is a test
-here : (c : tie.After-known-told invariant_loop decreases_loop)
-    → record_at c.before.before.before.before.before.before.before.args.book.now c.before.before.before.before.before.loop.place ≡ Test c.before.r.given.0.0
-here c = sym c.before.before.before.record-at.ensures ∙ c.before.r.given.1
+here : (c : tie.In-Test invariant_loop decreases_loop)
+    → record_at c.before.before.before.before.before.before.before.args.book.now c.before.before.before.before.before.loop-n.place ≡ Test c.before.r-1.given.0.0
+here c = sym c.before.before.before.record_at-r.ensures ∙ c.before.r-1.given.1
 
-add-place : tie.Need-overflow-add-place invariant_loop decreases_loop
-add-place c = omega (arith, c.test-size.ensures, test-within _ _ _ (here c.before))
+add-place : tie.Need-overflow_add-place invariant_loop decreases_loop
+add-place c = omega (arith, c.test_size-place.ensures, test-within _ _ _ (here c.before))
 
-add_n : tie.Need-overflow-add-n invariant_loop decreases_loop
+add_n : tie.Need-overflow_add-n invariant_loop decreases_loop
 add_n c = omega arith
 
-loop_less : tie.Need-loop-smaller invariant_loop decreases_loop
+loop_less : tie.Need-loop-n-smaller invariant_loop decreases_loop
 loop_less c = omega arith
 
-loop_again : tie.Need-loop-preserved invariant_loop decreases_loop
+loop_again : tie.Need-loop-n-preserved invariant_loop decreases_loop
 loop_again c =
-    let l = c.before.before.before.before.before.before.loop in
-    (omega arith, filled_more _ _ _ _ _ l.invariant.1 _ _ (omega arith) (here c.before) c.test-size.ensures)
+    let l = c.before.before.before.before.before.before.loop-n in
+    (omega arith, filled_more _ _ _ _ _ l.invariant.1 _ _ (omega arith) (here c.before) c.test_size-place.ensures)
 
-returns_2 : tie.Need-returns-2 invariant_loop decreases_loop
-returns_2 c = filled-full _ _ _ _ _ c.before.loop.invariant.1 (omega arith)
+returns_2 : tie.Need-returns invariant_loop decreases_loop
+returns_2 c = filled-full _ _ _ _ _ c.before.loop-n.invariant.1 (omega arith)
 
-pub tests-at_spec : {M : Type 1} → statement M
-tests-at_spec =
+pub tests_at_spec : {M : Type 1} → statement M
+tests_at_spec =
     tie.close
     (tie.spec
     invariant_loop

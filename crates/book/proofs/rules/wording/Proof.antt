@@ -11,52 +11,52 @@ use Rattle.book.proofs.Wordings.{wording-at, wording-none}
 use Rattle.book.proofs.rules.wording.Statement.{statement}
 use Rattle.book.proofs.rules.wording.Tie as tie
 
-wording-place_requires : tie.Need-wording-place-requires
+wording-place_requires : tie.Need-wording_place-place-requires
 wording-place_requires c κs = search rules
 
-enum_known_place : tie.Need-enum-known-place
+enum_known_place : tie.Need-enum_known-place
 enum_known_place c = search rules
 
-enum_told : tie.Need-enum-told
+enum_told : tie.Need-enum_told-1
 enum_told c = search rules
 
-sub_result : tie.Need-overflow-sub-result
+sub_result : tie.Need-slice_bounds-result-count
 sub_result c = search rules
 
-part-result-start : tie.Need-slice-bounds-result-start
+part-result-start : tie.Need-slice_bounds-result-start
 part-result-start c = search rules
 
-part-result-end : tie.Need-slice-bounds-result-end
+part-result-end : tie.Need-slice_bounds-result-end
 part-result-end c = search rules
 
-returns : tie.Need-returns
+returns : tie.Need-returns-in_default
 returns c =
-    let w = c.before.before.before.wording-place in
-    sym (wording-none _ _ w.result _ _ w.ensures c.before.enum_told.given.1)
+    let w = c.before.before.before.wording_place-place in
+    sym (wording-none _ _ w.result-1 _ _ w.ensures c.before.enum_told-1.given.1)
 
 -- the wording stands there
-here : (c : tie.After-known-told) → (c.before.place.given.0.0 + 24 ≤ length c.before.before.before.before.before.args.book.now)
-    × (take 24 (drop c.before.place.given.0.0 c.before.before.before.before.before.args.book.now)
+here : (c : tie.In-At) → (c.before.place-1.given.0.0 + 24 ≤ length c.before.before.before.before.before.args.book.now)
+    × (take 24 (drop c.before.place-1.given.0.0 c.before.before.before.before.before.args.book.now)
     ≡ rule_wording (read_book c.before.before.before.before.before.args.book.now) c.before.before.before.before.before.args.number)
 here c =
-    let w = c.before.before.before.wording-place in
-    wording-at _ _ w.result _ w.ensures c.before.place.given.1
+    let w = c.before.before.before.wording_place-place in
+    wording-at _ _ w.result-1 _ w.ensures c.before.place-1.given.1
 
-add_to : tie.Need-overflow-add-to
+add_to : tie.Need-overflow_add-to
 add_to c = omega (arith, (here c).0)
 
-sub_result_2 : tie.Need-overflow-sub-result-2
+sub_result_2 : tie.Need-slice_bounds-result-count-2
 sub_result_2 c = search rules
 
-part-result-start_2 : tie.Need-slice-bounds-result-start-2
+part-result-start_2 : tie.Need-slice_bounds-result-start-2
 part-result-start_2 c = search rules
 
-part-result-end_2 : tie.Need-slice-bounds-result-end-2
+part-result-end_2 : tie.Need-slice_bounds-result-end-2
 part-result-end_2 c = (here c).0
 
-returns_2 : tie.Need-returns-2
+returns_2 : tie.Need-returns
 returns_2 c =
-    let p = c.before.before.place.given.0.0 in
+    let p = c.before.before.place-1.given.0.0 in
     let n : p + 24 - p ≡ 24 = omega arith in
     rw n (here c.before).1
 

@@ -6,32 +6,32 @@ use Rattle.book.proofs.Wordings.{refused-place, accepted-within, accepted-place}
 use Rattle.book.proofs.rules.wording_place.Statement.{statement}
 use Rattle.book.proofs.rules.wording_place.Tie as tie
 
-find_places_requires : tie.Need-find-places-requires
+find_places_requires : tie.Need-find_places-found-requires
 find_places_requires c κs = search rules
 
-enum_known_answer : tie.Need-enum-known-answer
+enum_known_answer : tie.Need-enum_known-answer
 enum_known_answer c = search rules
 
-enum_known_answer_2 : tie.Need-enum-known-answer-2
+enum_known_answer_2 : tie.Need-enum_known-answer-in-Accepted-1
 enum_known_answer_2 c = search rules
 
 seek_requires : tie.Need-seek-requires
 seek_requires c κs =
-    let f = c.before.before.before.before.before.find-places in
-    accepted-within _ f.result f.ensures _ _ c.before.before.before.answer2.given.1
+    let f = c.before.before.before.before.before.find_places-found in
+    accepted-within _ f.result f.ensures _ _ c.before.before.before.answer-in-Accepted-1.given.1
 
-returns : tie.Need-returns
+returns : tie.Need-returns-in-Refused
 returns c =
-    let f = c.before.before.before.find-places in
-    refused-place _ f.result f.ensures _ _ _ c.before.answer.given.1
+    let f = c.before.before.before.find_places-found in
+    refused-place _ f.result f.ensures _ _ _ c.before.answer-1.given.1
 
-returns_2 : tie.Need-returns-2
+returns_2 : tie.Need-returns-in-Accepted
 returns_2 c =
-    let f = c.before.before.before.before.before.before.find-places in
-    c.seek.ensures ∙ accepted-place _ f.result f.ensures _ _ c.before.before.before.before.answer2.given.1 _
+    let f = c.before.before.before.before.before.before.find_places-found in
+    c.seek.ensures ∙ accepted-place _ f.result f.ensures _ _ c.before.before.before.before.answer-in-Accepted-1.given.1 _
 
-pub wording-place_spec : {M : Type 1} → statement M
-wording-place_spec =
+pub wording_place_spec : {M : Type 1} → statement M
+wording_place_spec =
     tie.close
     (tie.spec
     find_places_requires

@@ -5,23 +5,23 @@ use Rattle.book.specs.Wording.{refusal_in}
 use Rattle.book.proofs.rules.wording_refusal.Statement.{statement}
 use Rattle.book.proofs.rules.wording_refusal.Tie as tie
 
-wording-place_requires : tie.Need-wording-place-requires
+wording-place_requires : tie.Need-wording_place-place-requires
 wording-place_requires c κs = search rules
 
-enum_told : tie.Need-enum-told
+enum_told : tie.Need-enum_told-1
 enum_told c = search rules
 
-enum_known_place : tie.Need-enum-known-place
+enum_known_place : tie.Need-enum_known-place
 enum_known_place c = search rules
 
-returns : tie.Need-returns
+returns : tie.Need-returns-in-At
 unfolding refusal_in
-returns c = ap refusal_in (sym c.enum_told.given.1 ∙ c.before.before.wording-place.ensures)
+returns c = ap refusal_in (sym c.enum_told-1.given.1 ∙ c.before.before.wording_place-place.ensures)
 
-returns_2 : tie.Need-returns-2
+returns_2 : tie.Need-returns-in-Refused
 unfolding refusal_in
-returns_2 c = ap refusal_in (sym c.before.place.given.1 ∙ c.before.before.before.wording-place.ensures)
+returns_2 c = ap refusal_in (sym c.before.place-1.given.1 ∙ c.before.before.before.wording_place-place.ensures)
 
-pub wording-refusal_spec : {M : Type 1} → statement M
-wording-refusal_spec =
+pub wording_refusal_spec : {M : Type 1} → statement M
+wording_refusal_spec =
     tie.close (tie.spec wording-place_requires enum_told enum_known_place returns returns_2)

@@ -16,10 +16,10 @@ use Rattle.lines.proofs.LineLaws.{length-ending}
 use Rattle.lines.proofs.text.put_ending.Statement.{statement}
 use Rattle.lines.proofs.text.put_ending.Tie as tie
 
-abbrev invariant_loop : tie.invariant-loop
+abbrev invariant_loop : tie.invariant-loop-i
 invariant_loop free₀ wording n i₀ free i = (i ≤ n) × ((length free ≡ length free₀) × (free ≡ spliced free₀ 2 (take i wording)))
 
-abbrev decreases_loop : tie.decreases-loop
+abbrev decreases_loop : tie.decreases-loop-i
 decreases_loop free₀ wording n i₀ free i = n - i
 
 -- the buffer has place for the bytes shown and three more, and is as long with the first two in it
@@ -33,33 +33,33 @@ begun c =
     let h = enough c in
     front-byte (front-byte (front_nil c.args.free.now) 32 (omega arith)) 124 (omega arith)
 
-slice_write_free : tie.Need-slice-write-free invariant_loop decreases_loop
+slice_write_free : tie.Need-bounds-free-0 invariant_loop decreases_loop
 slice_write_free c = omega (arith, enough c)
 
-slice_write_free_2 : tie.Need-slice-write-free-2 invariant_loop decreases_loop
+slice_write_free_2 : tie.Need-bounds-free-1 invariant_loop decreases_loop
 slice_write_free_2 c = simp length-set (omega (arith, enough c))
 
-loop_holds : tie.Need-loop-init invariant_loop decreases_loop
+loop_holds : tie.Need-loop-i-init invariant_loop decreases_loop
 loop_holds c = (omega arith, (refl, sym (spliced-nil (set (set c.args.free.now 0 32) 1 124) 2)))
 
-shared_slice_read_free : tie.Need-shared-slice-read-free invariant_loop decreases_loop
+shared_slice_read_free : tie.Need-bounds-wording-i invariant_loop decreases_loop
 shared_slice_read_free c = search rules
 
-add_free : tie.Need-overflow-add-free invariant_loop decreases_loop
+add_free : tie.Need-overflow_add-free invariant_loop decreases_loop
 add_free c = search rules
 
-slice_write_free_3 : tie.Need-slice-write-free-3 invariant_loop decreases_loop
+slice_write_free_3 : tie.Need-bounds-free-i invariant_loop decreases_loop
 slice_write_free_3 c = let s = c.before.before.before in omega (arith, enough s, (begun s).long)
 
-add_i : tie.Need-overflow-add-i invariant_loop decreases_loop
+add_i : tie.Need-overflow_add-i invariant_loop decreases_loop
 add_i c = search rules
 
-loop_less : tie.Need-loop-smaller invariant_loop decreases_loop
+loop_less : tie.Need-loop-i-smaller invariant_loop decreases_loop
 loop_less c = search rules
 
-loop_again : tie.Need-loop-preserved invariant_loop decreases_loop
+loop_again : tie.Need-loop-i-preserved invariant_loop decreases_loop
 loop_again c =
-    let l = c.before.before.loop in
+    let l = c.before.before.loop-i in
     let s = c.before.before.before in
     let w = s.args.wording.now in
     let first = set (set s.args.free.now 0 32) 1 124 in
@@ -72,19 +72,19 @@ loop_again c =
       ),
     )
 
-add_free_2 : tie.Need-overflow-add-free-2 invariant_loop decreases_loop
+add_free_2 : tie.Need-overflow_add-free-2 invariant_loop decreases_loop
 add_free_2 c = search rules
 
-slice_write_free_4 : tie.Need-slice-write-free-4 invariant_loop decreases_loop
+slice_write_free_4 : tie.Need-bounds-free-n invariant_loop decreases_loop
 slice_write_free_4 c = let s = c.before.before in omega (arith, enough s, (begun s).long)
 
-same_length : tie.Need-same-length invariant_loop decreases_loop
-same_length c = simp length-set (c.before.loop.invariant.1.0 ∙ (begun c.before.before).long)
+same_length : tie.Need-shape_of-free invariant_loop decreases_loop
+same_length c = simp length-set (c.before.loop-i.invariant.1.0 ∙ (begun c.before.before).long)
 
 returns : tie.Need-returns invariant_loop decreases_loop
 unfolding ending
 returns c =
-    let l = c.before.loop in
+    let l = c.before.loop-i in
     let s = c.before.before in
     let w = s.args.wording.now in
     let h = enough s in
@@ -94,8 +94,8 @@ returns c =
     let body = front-more (begun s) (trimmed w) {n = s.args.n} (omega arith) (omega arith) (l.invariant.1.1 ∙ ap (spliced (set (set s.args.free.now 0 32) 1 124) 2) shown) in
     (front-byte body 10 (omega arith)).bytes
 
-pub put-ending_spec : {M : Type 1} → statement M
-put-ending_spec =
+pub put_ending_spec : {M : Type 1} → statement M
+put_ending_spec =
     tie.close
     (tie.spec
     invariant_loop

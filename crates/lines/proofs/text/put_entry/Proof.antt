@@ -16,33 +16,33 @@ enough : (c : tie.Start) → let r = c.args.r in length (digits r.line) + length
 enough c = omega (arith, length-entry c.args.r)
 
 -- from each call back to the one before it
-abbrev start : tie.After-put-digits → tie.Start
+abbrev start : tie.After-put_digits-at → tie.Start
 start c = c.before.before.before
 
-abbrev first : tie.After-put-digits2 → tie.After-put-digits
+abbrev first : tie.After-put_digits-at-2 → tie.After-put_digits-at
 first c = c.before.before.before.before
 
-abbrev second : tie.After-put-digits3 → tie.After-put-digits2
+abbrev second : tie.After-put_digits-at-3 → tie.After-put_digits-at-2
 second c = c.before.before.before.before
 
 -- the buffer with the space, with the line behind it, with a slash and the column, and with a slash and the value
 abbrev with_space : tie.Start → List ℕ
 with_space c = set c.args.free.now 0 32
 
-abbrev with_line : tie.After-put-digits → List ℕ
-with_line c = back (with_space (start c)) 1 c.put-digits.new.0
+abbrev with_line : tie.After-put_digits-at → List ℕ
+with_line c = back (with_space (start c)) 1 c.put_digits-at.new.0
 
-abbrev line-end : tie.After-put-digits → ℕ
-line-end c = 1 + c.put-digits.result
+abbrev line-end : tie.After-put_digits-at → ℕ
+line-end c = 1 + c.put_digits-at.result
 
-abbrev with_column : tie.After-put-digits2 → List ℕ
-with_column c = let p = first c in back (set (with_line p) (line-end p) 47) (line-end p + 1) c.put-digits2.new.0
+abbrev with_column : tie.After-put_digits-at-2 → List ℕ
+with_column c = let p = first c in back (set (with_line p) (line-end p) 47) (line-end p + 1) c.put_digits-at-2.new.0
 
-abbrev column_end : tie.After-put-digits2 → ℕ
-column_end c = line-end (first c) + 1 + c.put-digits2.result
+abbrev column_end : tie.After-put_digits-at-2 → ℕ
+column_end c = line-end (first c) + 1 + c.put_digits-at-2.result
 
-abbrev with_value : tie.After-put-digits3 → List ℕ
-with_value c = let p = second c in back (set (with_column p) (column_end p) 47) (column_end p + 1) c.put-digits3.new.0
+abbrev with_value : tie.After-put_digits-at-3 → List ℕ
+with_value c = let p = second c in back (set (with_column p) (column_end p) 47) (column_end p + 1) c.put_digits-at-3.new.0
 
 -- what stands at its front each time, and up to where
 abbrev line_text_lem : tie.Start → List ℕ
@@ -54,111 +54,111 @@ column_text c = (line_text_lem c ++ 47 ∷ []) ++ digits c.args.r.column
 space_put : (c : tie.Start) → Front c.args.free.now (32 ∷ []) (with_space c) 1
 space_put c = front-byte (front_nil c.args.free.now) 32 (omega (arith, enough c))
 
-line-put : (c : tie.After-put-digits) → Front (start c).args.free.now (line_text_lem (start c)) (with_line c) (line-end c)
+line-put : (c : tie.After-put_digits-at) → Front (start c).args.free.now (line_text_lem (start c)) (with_line c) (line-end c)
 line-put c =
     let s = start c in
-    front-lent (space_put s) (digits s.args.r.line) (omega (arith, enough s)) c.put-digits.ensures
+    front-lent (space_put s) (digits s.args.r.line) (omega (arith, enough s)) c.put_digits-at.ensures
 
-slash_put : (c : tie.After-put-digits) → Front (start c).args.free.now (line_text_lem (start c) ++ 47 ∷ []) (set (with_line c) (line-end c) 47) (line-end c + 1)
+slash_put : (c : tie.After-put_digits-at) → Front (start c).args.free.now (line_text_lem (start c) ++ 47 ∷ []) (set (with_line c) (line-end c) 47) (line-end c + 1)
 slash_put c = front-byte (line-put c) 47 (omega (arith, enough (start c)))
 
-column_put : (c : tie.After-put-digits2) → let s = start (first c) in Front s.args.free.now (column_text s) (with_column c) (column_end c)
+column_put : (c : tie.After-put_digits-at-2) → let s = start (first c) in Front s.args.free.now (column_text s) (with_column c) (column_end c)
 column_put c =
     let s = start (first c) in
-    front-lent (slash_put (first c)) (digits s.args.r.column) (omega (arith, enough s)) c.put-digits2.ensures
+    front-lent (slash_put (first c)) (digits s.args.r.column) (omega (arith, enough s)) c.put_digits-at-2.ensures
 
-slashes_put : (c : tie.After-put-digits2) →
+slashes_put : (c : tie.After-put_digits-at-2) →
     let s = start (first c) in
     Front s.args.free.now (column_text s ++ 47 ∷ []) (set (with_column c) (column_end c) 47) (column_end c + 1)
-slashes_put c = front-byte (column_put c) 47 (omega (arith, enough (start (first c)), (first c).put-digits.ensures.0))
+slashes_put c = front-byte (column_put c) 47 (omega (arith, enough (start (first c)), (first c).put_digits-at.ensures.0))
 
-value_put : (c : tie.After-put-digits3) →
+value_put : (c : tie.After-put_digits-at-3) →
     let s = start (first (second c)) in
-    Front s.args.free.now (entry s.args.r) (with_value c) (column_end (second c) + 1 + c.put-digits3.result)
+    Front s.args.free.now (entry s.args.r) (with_value c) (column_end (second c) + 1 + c.put_digits-at-3.result)
 value_put c =
     let s = start (first (second c)) in
     let p = second c in
-    let h : column_end p + 1 + c.put-digits3.result ≤ length s.args.free.now = omega (arith, enough s, (first p).put-digits.ensures.0, p.put-digits2.ensures.0) in
-    let all = front-lent (slashes_put p) (digits s.args.r.value) h c.put-digits3.ensures in
+    let h : column_end p + 1 + c.put_digits-at-3.result ≤ length s.args.free.now = omega (arith, enough s, (first p).put_digits-at.ensures.0, p.put_digits-at-2.ensures.0) in
+    let all = front-lent (slashes_put p) (digits s.args.r.value) h c.put_digits-at-3.ensures in
     rw entry_pieces at all
 
-slice_write_free : tie.Need-slice-write-free
+slice_write_free : tie.Need-bounds-free-0
 slice_write_free c = omega (arith, enough c.before)
 
-sub_put-digits : tie.Need-overflow-sub-put-digits
+sub_put-digits : tie.Need-slice_bounds-put_digits-count
 sub_put-digits c = omega (arith, (space_put c.before).long, (space_put c.before).fits)
 
-part-put-digits-start : tie.Need-slice-bounds-put-digits-start
+part-put-digits-start : tie.Need-slice_bounds-put_digits-start
 part-put-digits-start c = omega (arith, (space_put c.before).long, (space_put c.before).fits)
 
-part-put-digits-end : tie.Need-slice-bounds-put-digits-end
+part-put-digits-end : tie.Need-slice_bounds-put_digits-end
 part-put-digits-end c = search rules
 
-put-digits_requires : tie.Need-put-digits-requires
+put-digits_requires : tie.Need-put_digits-at-requires
 put-digits_requires c κs =
     let s = c.before.before in
     rest_long (with_space s) 1 (length (digits s.args.r.line)) (omega (arith, enough s, (space_put s).long))
 
-add_at : tie.Need-overflow-add-at
+add_at : tie.Need-overflow_add-at
 add_at c = omega (arith, (line-put c.before.before).fits)
 
-slice_write_free_2 : tie.Need-slice-write-free-2
+slice_write_free_2 : tie.Need-bounds-free-at
 slice_write_free_2 c = let p = c.before.before in omega (arith, enough (start p), (line-put p).long)
 
-add-at_2 : tie.Need-overflow-add-at-2
+add-at_2 : tie.Need-overflow_add-at-2
 add-at_2 c = omega (arith, (slash_put c.before.before).fits)
 
-sub_put-digits_2 : tie.Need-overflow-sub-put-digits-2
+sub_put-digits_2 : tie.Need-slice_bounds-put_digits-count-2
 sub_put-digits_2 c = let s = slash_put c.before.before in omega (arith, s.long, s.fits)
 
-part-put-digits-start_2 : tie.Need-slice-bounds-put-digits-start-2
+part-put-digits-start_2 : tie.Need-slice_bounds-put_digits-start-2
 part-put-digits-start_2 c = let s = slash_put c.before.before in omega (arith, s.long, s.fits)
 
-part-put-digits-end_2 : tie.Need-slice-bounds-put-digits-end-2
+part-put-digits-end_2 : tie.Need-slice_bounds-put_digits-end-2
 part-put-digits-end_2 c = search rules
 
-put-digits_requires_2 : tie.Need-put-digits-requires-2
+put-digits_requires_2 : tie.Need-put_digits-at-requires-2
 put-digits_requires_2 c κs =
     let p = c.before.before.before in
     let s = start p in
     rest_long (set (with_line p) (line-end p) 47) (line-end p + 1) (length (digits s.args.r.column)) (omega (arith, enough s, (slash_put p).long))
 
-add-at_3 : tie.Need-overflow-add-at-3
+add-at_3 : tie.Need-overflow_add-at-3
 add-at_3 c = omega (arith, (column_put c.before.before).fits)
 
-slice_write_free_3 : tie.Need-slice-write-free-3
-slice_write_free_3 c = let p = c.before.before in omega (arith, enough (start (first p)), (first p).put-digits.ensures.0, (column_put p).long)
+slice_write_free_3 : tie.Need-bounds-free-at-2
+slice_write_free_3 c = let p = c.before.before in omega (arith, enough (start (first p)), (first p).put_digits-at.ensures.0, (column_put p).long)
 
-add-at_4 : tie.Need-overflow-add-at-4
+add-at_4 : tie.Need-overflow_add-at-4
 add-at_4 c = omega (arith, (slashes_put c.before.before).fits)
 
-sub_put-digits_3 : tie.Need-overflow-sub-put-digits-3
+sub_put-digits_3 : tie.Need-slice_bounds-put_digits-count-3
 sub_put-digits_3 c = let s = slashes_put c.before.before in omega (arith, s.long, s.fits)
 
-part-put-digits-start_3 : tie.Need-slice-bounds-put-digits-start-3
+part-put-digits-start_3 : tie.Need-slice_bounds-put_digits-start-3
 part-put-digits-start_3 c = let s = slashes_put c.before.before in omega (arith, s.long, s.fits)
 
-part-put-digits-end_3 : tie.Need-slice-bounds-put-digits-end-3
+part-put-digits-end_3 : tie.Need-slice_bounds-put_digits-end-3
 part-put-digits-end_3 c = search rules
 
-put-digits_requires_3 : tie.Need-put-digits-requires-3
+put-digits_requires_3 : tie.Need-put_digits-at-requires-3
 put-digits_requires_3 c κs =
     let p = c.before.before.before in
     let s = start (first p) in
     rest_long (set (with_column p) (column_end p) 47) (column_end p + 1) (length (digits s.args.r.value))
-    (omega (arith, enough s, (first p).put-digits.ensures.0, (slashes_put p).long))
+    (omega (arith, enough s, (first p).put_digits-at.ensures.0, (slashes_put p).long))
 
-add-at_5 : tie.Need-overflow-add-at-5
+add-at_5 : tie.Need-overflow_add-at-5
 add-at_5 c = omega (arith, (value_put c.before.before).fits)
 
-same_length : tie.Need-same-length
+same_length : tie.Need-shape_of-free
 same_length c = (value_put c.before.before).long
 
 returns : tie.Need-returns
 returns c = let w = value_put c.before.before in (w.end, w.bytes)
 
-pub put-entry_spec : {M : Type 1} → statement M
-put-entry_spec =
+pub put_entry_spec : {M : Type 1} → statement M
+put_entry_spec =
     tie.close
     (tie.spec
     slice_write_free

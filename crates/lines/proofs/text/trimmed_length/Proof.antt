@@ -11,48 +11,48 @@ use Rattle.lines.proofs.LineLaws.{trimmed-shorter, trimmed-itself}
 use Rattle.lines.proofs.text.trimmed_length.Statement.{statement}
 use Rattle.lines.proofs.text.trimmed_length.Tie as tie
 
-abbrev invariant_loop : tie.invariant-loop
+abbrev invariant_loop : tie.invariant-loop-n
 invariant_loop wording n₀ n = (n ≤ length wording) × (trimmed (take n wording) ≡ trimmed wording)
 
-abbrev decreases_loop : tie.decreases-loop
+abbrev decreases_loop : tie.decreases-loop-n
 decreases_loop wording n₀ n = n
 
-loop_holds : tie.Need-loop-init invariant_loop decreases_loop
+loop_holds : tie.Need-loop-n-init invariant_loop decreases_loop
 loop_holds c = (omega arith, ap trimmed (take-length c.args.wording.now))
 
-sub_if1 : tie.Need-overflow-sub-if1 invariant_loop decreases_loop
+sub_if1 : tie.Need-overflow_sub-n invariant_loop decreases_loop
 sub_if1 c = search rules
 
-shared_slice_read_if1 : tie.Need-shared-slice-read-if1 invariant_loop decreases_loop
+shared_slice_read_if1 : tie.Need-bounds-wording-n invariant_loop decreases_loop
 shared_slice_read_if1 c = search rules
 
-returns : tie.Need-returns invariant_loop decreases_loop
+returns : tie.Need-returns-then-wording-n-ne32 invariant_loop decreases_loop
 returns c =
-    let l = c.before.before.before.loop in
+    let l = c.before.before.before.loop-n in
     let w = c.before.before.before.before.args.wording.now in
-    (sym (trimmed-itself w l.n (omega arith) (omega arith) c.if1.true) ∙ l.invariant.1, omega arith)
+    (sym (trimmed-itself w l.n (omega arith) (omega arith) c.if-wording-n-ne32.true) ∙ l.invariant.1, omega arith)
 
-sub_n : tie.Need-overflow-sub-n invariant_loop decreases_loop
+sub_n : tie.Need-overflow_sub-n-in-loop-n invariant_loop decreases_loop
 sub_n c = search rules
 
-loop_less : tie.Need-loop-smaller invariant_loop decreases_loop
+loop_less : tie.Need-loop-n-smaller invariant_loop decreases_loop
 loop_less c = search rules
 
-loop_again : tie.Need-loop-preserved invariant_loop decreases_loop
+loop_again : tie.Need-loop-n-preserved invariant_loop decreases_loop
 loop_again c =
-    let l = c.before.before.before.loop in
+    let l = c.before.before.before.loop-n in
     let w = c.before.before.before.before.args.wording.now in
-    (omega arith, sym (trimmed-shorter w l.n (omega arith) (omega arith) c.if1.false) ∙ l.invariant.1)
+    (omega arith, sym (trimmed-shorter w l.n (omega arith) (omega arith) c.if-wording-n-ne32.false) ∙ l.invariant.1)
 
-returns_2 : tie.Need-returns-2 invariant_loop decreases_loop
+returns_2 : tie.Need-returns invariant_loop decreases_loop
 unfolding trimmed
 returns_2 c =
-    let l = c.before.loop in
+    let l = c.before.loop-n in
     let e : l.n ≡ 0 = omega arith in
     (ap (λ (k : ℕ). trimmed (take k c.before.before.args.wording.now)) (sym e) ∙ l.invariant.1, omega arith)
 
-pub trimmed-length_spec : {M : Type 1} → statement M
-trimmed-length_spec =
+pub trimmed_length_spec : {M : Type 1} → statement M
+trimmed_length_spec =
     tie.close
     (tie.spec
     invariant_loop

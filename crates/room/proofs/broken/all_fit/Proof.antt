@@ -10,39 +10,39 @@ use Rattle.room.proofs.BrokenLaws.{RuleFits, count_at, tables-read}
 use Rattle.room.proofs.broken.all_fit.Statement.{statement}
 use Rattle.room.proofs.broken.all_fit.Tie as tie
 
-two-at_requires : tie.Need-two-at-requires
+two-at_requires : tie.Need-two_at-conditions-requires
 two-at_requires c κs = search rules
 
-sub_counts-fit : tie.Need-overflow-sub-counts-fit
+sub_counts-fit : tie.Need-slice_bounds-counts_fit-count
 sub_counts-fit c = search rules
 
-part-counts-fit-start : tie.Need-slice-bounds-counts-fit-start
+part-counts-fit-start : tie.Need-slice_bounds-counts_fit-start
 part-counts-fit-start c = search rules
 
-part-counts-fit-end : tie.Need-slice-bounds-counts-fit-end
+part-counts-fit-end : tie.Need-slice_bounds-counts_fit-end
 part-counts-fit-end c = search rules
 
-counts-fit_requires : tie.Need-counts-fit-requires
+counts-fit_requires : tie.Need-counts_fit-requires
 counts-fit_requires c κs = search rules
 
-returns : tie.Need-returns
+returns : tie.Need-returns-then-not-counts_fit
 returns c e = absurd (false≢true e)
 
-ends-fit_requires : tie.Need-ends-fit-requires
+ends-fit_requires : tie.Need-ends_fit-requires
 ends-fit_requires c κs = search rules
 
-returns_2 : tie.Need-returns-2
+returns_2 : tie.Need-returns
 returns_2 c e =
     let n = c.before.before in
     let s = n.before.before.before.before in
     let room = s.args.room.now in
-    let conditions = n.counts-fit.ensures (not-false _ c.before.if1.false) in
+    let conditions = n.counts_fit.ensures (not-false _ c.before.if-not-counts_fit.false-raw) in
     let fits : (i : ℕ) → i < s.args.rules → RuleFits room (uint 2 room 6) i =
-    λ i l. omega (arith, conditions.0 i l, c.ends-fit.ensures e i (omega arith), count_at room i (omega arith)) in
-    (tables-read room (omega arith) s.requires.1.0 refl n.before.before.two_at.ensures.0 (omega arith)).1 (fits, conditions.1)
+    λ i l. omega (arith, conditions.0 i l, c.ends_fit.ensures e i (omega arith), count_at room i (omega arith)) in
+    (tables-read room (omega arith) s.requires.1.0 refl n.before.before.two_at-conditions.ensures.0 (omega arith)).1 (fits, conditions.1)
 
-pub all-fit_spec : {M : Type 1} → statement M
-all-fit_spec =
+pub all_fit_spec : {M : Type 1} → statement M
+all_fit_spec =
     tie.close
     (tie.spec
     two-at_requires

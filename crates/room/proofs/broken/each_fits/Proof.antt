@@ -13,106 +13,106 @@ use Rattle.room.proofs.BrokenLaws.{RuleFits, total-more, some-unfit, all_fit}
 use Rattle.room.proofs.broken.each_fits.Statement.{statement}
 use Rattle.room.proofs.broken.each_fits.Tie as tie
 
-abbrev invariant_loop : tie.invariant-loop
+abbrev invariant_loop : tie.invariant-loop-i
 invariant_loop room rules tokens total₀ i₀ total i =
     (i ≤ rules) × ((total ≡ sum (take i (part room 8656 32))) × ((total ≤ i * 6) × ((k : ℕ) → k < i → RuleFits room tokens k)))
 
-abbrev decreases_loop : tie.decreases-loop
+abbrev decreases_loop : tie.decreases-loop-i
 decreases_loop room rules tokens total₀ i₀ total i = rules - i
 
-two-at_requires : tie.Need-two-at-requires invariant_loop decreases_loop
+two-at_requires : tie.Need-two_at-tokens-requires invariant_loop decreases_loop
 two-at_requires c κs = search rules
 
-loop_holds : tie.Need-loop-init invariant_loop decreases_loop
+loop_holds : tie.Need-loop-i-init invariant_loop decreases_loop
 unfolding sum
 loop_holds c = (omega arith, (refl, (omega arith, below_none _)))
 
-add-k : tie.Need-overflow-add-k invariant_loop decreases_loop
+add-k : tie.Need-overflow_add-k invariant_loop decreases_loop
 add-k c = search rules
 
-shared_slice_read-k : tie.Need-shared-slice-read-k invariant_loop decreases_loop
+shared_slice_read-k : tie.Need-bounds-room-i invariant_loop decreases_loop
 shared_slice_read-k c = search rules
 
-cast_k : tie.Need-overflow-cast-k invariant_loop decreases_loop
-cast_k c = omega (arith, c.shared-slice-known2.given (8656 + c.before.before.loop.i))
+cast_k : tie.Need-overflow_cast-k invariant_loop decreases_loop
+cast_k c = omega (arith, c.shared_slice_known-in-loop-i-1.given (8656 + c.before.before.loop-i.i))
 
 -- the rule at `i` does not fit
-unfit : (c : tie.In-loop invariant_loop decreases_loop) →
+unfit : (c : tie.In-loop-i invariant_loop decreases_loop) →
     let l = c.before in
     let room = l.before.before.before.args.room.now in
-    (RuleFits room l.before.two_at.result l.loop.i → ⊥) → false ≡ tables_fit room
+    (RuleFits room l.before.two_at-tokens.result l.loop-i.i → ⊥) → false ≡ tables_fit room
 unfit c outside =
     let l = c.before in
     let s = l.before.before.before in
-    sym (some-unfit s.args.room.now (omega arith) s.requires.1.0 l.before.two_at.ensures.0 (omega arith) λ all. outside (all l.loop.i c.loop-test.true))
+    sym (some-unfit s.args.room.now (omega arith) s.requires.1.0 l.before.two_at-tokens.ensures.0 (omega arith) λ all. outside (all l.loop-i.i c.loop-i-test.true))
 
-returns : tie.Need-returns invariant_loop decreases_loop
+returns : tie.Need-returns-then-k-lt1 invariant_loop decreases_loop
 returns c = unfit c.before.before λ h. omega arith
 
-returns_2 : tie.Need-returns-2 invariant_loop decreases_loop
+returns_2 : tie.Need-returns-then-k-gt6 invariant_loop decreases_loop
 returns_2 c = unfit c.before.before.before λ h. omega arith
 
-mul_two-at : tie.Need-overflow-mul-two-at invariant_loop decreases_loop
+mul_two-at : tie.Need-overflow_mul-i invariant_loop decreases_loop
 mul_two-at c = search rules
 
-add-two-at : tie.Need-overflow-add-two-at invariant_loop decreases_loop
+add-two-at : tie.Need-overflow_add-i invariant_loop decreases_loop
 add-two-at c = search rules
 
-two-at_requires_2 : tie.Need-two-at-requires-2 invariant_loop decreases_loop
+two-at_requires_2 : tie.Need-two_at-requires invariant_loop decreases_loop
 two-at_requires_2 c κs = search rules
 
-returns_3 : tie.Need-returns-3 invariant_loop decreases_loop
+returns_3 : tie.Need-returns-then-tokens-two_at invariant_loop decreases_loop
 returns_3 c = unfit c.before.before.before.before.before λ h. omega arith
 
-mul_two-at_2 : tie.Need-overflow-mul-two-at-2 invariant_loop decreases_loop
+mul_two-at_2 : tie.Need-overflow_mul-i-in-loop-i invariant_loop decreases_loop
 mul_two-at_2 c = search rules
 
-add-two-at_2 : tie.Need-overflow-add-two-at-2 invariant_loop decreases_loop
+add-two-at_2 : tie.Need-overflow_add-i-in-loop-i invariant_loop decreases_loop
 add-two-at_2 c = search rules
 
-two-at_requires_3 : tie.Need-two-at-requires-3 invariant_loop decreases_loop
+two-at_requires_3 : tie.Need-two_at-requires-in-loop-i invariant_loop decreases_loop
 two-at_requires_3 c κs = search rules
 
-returns_4 : tie.Need-returns-4 invariant_loop decreases_loop
+returns_4 : tie.Need-returns-then-tokens-two_at-2 invariant_loop decreases_loop
 returns_4 c = unfit c.before.before.before.before.before.before.before λ h. omega arith
 
-add_total : tie.Need-overflow-add-total invariant_loop decreases_loop
+add_total : tie.Need-overflow_add-total invariant_loop decreases_loop
 add_total c = search rules
 
-add_i : tie.Need-overflow-add-i invariant_loop decreases_loop
+add_i : tie.Need-overflow_add-i-in-loop-i-2 invariant_loop decreases_loop
 add_i c = search rules
 
-loop_less : tie.Need-loop-smaller invariant_loop decreases_loop
+loop_less : tie.Need-loop-i-smaller invariant_loop decreases_loop
 loop_less c = search rules
 
-loop_again : tie.Need-loop-preserved invariant_loop decreases_loop
+loop_again : tie.Need-loop-i-preserved invariant_loop decreases_loop
 loop_again c =
     let a = c.before.before.before.before.before.before.before.before in
     let room = a.before.before.before.args.room.now in
-    let i = a.loop.i in
-    let here : RuleFits room a.before.two_at.result i = omega arith in
-    (omega arith, (omega (arith, total-more room (omega arith) i (omega arith)), (omega arith, below_more _ _ a.loop.invariant.1.1.1 here)))
+    let i = a.loop-i.i in
+    let here : RuleFits room a.before.two_at-tokens.result i = omega arith in
+    (omega arith, (omega (arith, total-more room (omega arith) i (omega arith)), (omega arith, below_more _ _ a.loop-i.invariant.1.1.1 here)))
 
-two-at_requires_4 : tie.Need-two-at-requires-4 invariant_loop decreases_loop
+two-at_requires_4 : tie.Need-two_at-requires-2 invariant_loop decreases_loop
 two-at_requires_4 c κs = search rules
 
-returns_5 : tie.Need-returns-5 invariant_loop decreases_loop
+returns_5 : tie.Need-returns invariant_loop decreases_loop
 returns_5 c =
     let l = c.before.before in
     let s = l.before.before.before in
-    let e : l.loop.i ≡ s.args.rules = omega arith in
+    let e : l.loop-i.i ≡ s.args.rules = omega arith in
     all_fit
     s.args.room.now
     (omega arith)
     s.requires.1.0
-    l.before.two_at.ensures.0
+    l.before.two_at-tokens.ensures.0
     (omega arith)
-    c.two-at4.ensures.0
-    (λ k h. l.loop.invariant.1.1.1 k (omega arith))
-    (rw e at l.loop.invariant.1.0)
+    c.two_at-2.ensures.0
+    (λ k h. l.loop-i.invariant.1.1.1 k (omega arith))
+    (rw e at l.loop-i.invariant.1.0)
 
-pub each-fits_spec : {M : Type 1} → statement M
-each-fits_spec =
+pub each_fits_spec : {M : Type 1} → statement M
+each_fits_spec =
     tie.close
     (tie.spec
     invariant_loop

@@ -17,60 +17,60 @@ use Rattle.room.proofs.broken.head_fits.Tie as tie
 unfit : (room : List ℕ) → (Head (λ k. uint 2 room (k * 2)) → ⊥) → false ≡ head_fits room
 unfit room outside = sym (eq-false_of_not-eq-true λ t. outside ((head_read room).0 t))
 
-two-at_requires : tie.Need-two-at-requires
+two-at_requires : tie.Need-two_at-e-requires
 two-at_requires c κs = search rules
 
-two-at_requires_2 : tie.Need-two-at-requires-2
+two-at_requires_2 : tie.Need-two_at-t-requires
 two-at_requires_2 c κs = search rules
 
-returns : tie.Need-returns
+returns : tie.Need-returns-then-e-lt1
 returns c = unfit _ λ h. omega arith
 
-returns_2 : tie.Need-returns-2
+returns_2 : tie.Need-returns-then-e-gt256
 returns_2 c = unfit _ λ h. omega arith
 
-returns_3 : tie.Need-returns-3
+returns_3 : tie.Need-returns-then-t-lt1
 returns_3 c = unfit _ λ h. omega arith
 
-returns_4 : tie.Need-returns-4
+returns_4 : tie.Need-returns-then-t-gt2048
 returns_4 c = unfit _ λ h. omega arith
 
-two-at_requires_3 : tie.Need-two-at-requires-3
+two-at_requires_3 : tie.Need-two_at-requires
 two-at_requires_3 c κs = search rules
 
-returns_5 : tie.Need-returns-5
+returns_5 : tie.Need-returns-then-e-two_at
 returns_5 c = unfit _ λ h. omega arith
 
-two-at_requires_4 : tie.Need-two-at-requires-4
+two-at_requires_4 : tie.Need-two_at-requires-2
 two-at_requires_4 c κs = search rules
 
-returns_6 : tie.Need-returns-6
+returns_6 : tie.Need-returns-then-t-two_at
 returns_6 c = unfit _ λ h. omega arith
 
-two-at_requires_5 : tie.Need-two-at-requires-5
+two-at_requires_5 : tie.Need-two_at-requires-3
 two-at_requires_5 c κs = search rules
 
-returns_7 : tie.Need-returns-7
+returns_7 : tie.Need-returns-then-two_at-gt8192
 returns_7 c = unfit _ λ h. omega arith
 
-two-at_requires_6 : tie.Need-two-at-requires-6
+two-at_requires_6 : tie.Need-two_at-requires-4
 two-at_requires_6 c κs = search rules
 
-returns_8 : tie.Need-returns-8
+returns_8 : tie.Need-returns-then-two_at-gt32
 returns_8 c = unfit _ λ h. omega arith
 
-two-at_requires_7 : tie.Need-two-at-requires-7
+two-at_requires_7 : tie.Need-two_at-requires-5
 two-at_requires_7 c κs = search rules
 
-returns_9 : tie.Need-returns-9
+returns_9 : tie.Need-returns-then-two_at-gt192
 returns_9 c = unfit _ λ h. omega arith
 
-two-at_requires_8 : tie.Need-two-at-requires-8
+two-at_requires_8 : tie.Need-two_at-requires-6
 two-at_requires_8 c κs = search rules
 
-returns_10 : tie.Need-returns-10
+returns_10 : tie.Need-returns
 returns_10 c =
-    let z = c.two-at8.result in
+    let z = c.two_at-6.result in
     agreed _ _ (λ t. (head_read _).1 (omega (arith, eqb-true z 0 t)), λ t. let h = (head_read _).0 t in eq-eqb z 0 (omega arith))
 
 pub head_fits_spec : {M : Type 1} → statement M

@@ -13,51 +13,51 @@ use Rattle.room.proofs.BrokenLaws.{head_number-at, head_read}
 use Rattle.room.proofs.broken.is_broken.Statement.{statement}
 use Rattle.room.proofs.broken.is_broken.Tie as tie
 
-fits : (c : tie.Else2) → head_fits c.before.before.before.before.args.room.now ≡ true
-fits c = sym c.before.head-fits.ensures ∙ not-false _ c.if2.false
+fits : (c : tie.Else-not-head_fits) → head_fits c.before.before.before.before.args.room.now ≡ true
+fits c = sym c.before.head_fits.ensures ∙ not-false _ c.if-not-head_fits.false-raw
 
-returns : tie.Need-returns
+returns : tie.Need-returns-then-room-lt16
 unfolding broken
-returns c = sym (simp (lt-ltb _ _ c.if1.true))
+returns c = sym (simp (lt-ltb _ _ c.if-room-lt16.true))
 
-head_fits_requires : tie.Need-head-fits-requires
+head_fits_requires : tie.Need-head_fits-requires
 head_fits_requires c κs = search rules
 
-returns_2 : tie.Need-returns-2
+returns_2 : tie.Need-returns-then-not-head_fits
 unfolding broken
-returns_2 c = sym (simp (sym c.before.head-fits.ensures ∙ not-true _ c.if2.true, or-true))
+returns_2 c = sym (simp (sym c.before.head_fits.ensures ∙ not-true _ c.if-not-head_fits.true-raw, or-true))
 
-two-at_requires : tie.Need-two-at-requires
+two-at_requires : tie.Need-two_at-requires
 two-at_requires c κs = search rules
 
-mul_if3 : tie.Need-overflow-mul-if3
+mul_if3 : tie.Need-overflow_mul-two_at
 mul_if3 c = search rules
 
-add_if3 : tie.Need-overflow-add-if3
+add_if3 : tie.Need-overflow_add-two_at
 add_if3 c = search rules
 
-returns_3 : tie.Need-returns-3
+returns_3 : tie.Need-returns-then-room-two_at
 unfolding broken
 returns_3 c =
     let room = c.before.before.before.before.before.before.args.room.now in
     let short = lt-ltb (length room) (18288 + limit room * 2) (omega (arith, head_number-at room 1 (omega arith))) in
     sym (simp (short, or-true))
 
-tables_fit_requires : tie.Need-tables-fit-requires
+tables_fit_requires : tie.Need-tables_fit-requires
 tables_fit_requires c κs =
     let h = (head_read _).0 (fits c.before.before) in
     omega arith
 
-returns_4 : tie.Need-returns-4
+returns_4 : tie.Need-returns
 unfolding broken
 returns_4 c =
     let room = c.before.before.before.before.before.before.before.args.room.now in
     let there = le-ltb (length room) 16 (omega arith) in
     let large = le-ltb (length room) (18288 + limit room * 2) (omega (arith, head_number-at room 1 (omega arith))) in
-    ap not c.tables-fit.ensures ∙ sym (simp (there, fits c.before.before.before, large))
+    ap not c.tables_fit.ensures ∙ sym (simp (there, fits c.before.before.before, large))
 
-pub is-broken_spec : {M : Type 1} → statement M
-is-broken_spec =
+pub is_broken_spec : {M : Type 1} → statement M
+is_broken_spec =
     tie.close
     (tie.spec
     returns

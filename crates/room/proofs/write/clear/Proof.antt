@@ -12,27 +12,27 @@ use Rattle.room.proofs.Spliced.{set-behind, spliced-whole}
 use Rattle.room.proofs.write.clear.Statement.{statement}
 use Rattle.room.proofs.write.clear.Tie as tie
 
-abbrev invariant_loop : tie.invariant-loop
+abbrev invariant_loop : tie.invariant-loop-i
 invariant_loop part₀ i₀ part i = (i ≤ length part₀) × ((length part ≡ length part₀) × (part ≡ spliced part₀ 0 (replicate i 0)))
 
-abbrev decreases_loop : tie.decreases-loop
+abbrev decreases_loop : tie.decreases-loop-i
 decreases_loop part₀ i₀ part i = length part₀ - i
 
-loop_holds : tie.Need-loop-init invariant_loop decreases_loop
+loop_holds : tie.Need-loop-i-init invariant_loop decreases_loop
 loop_holds c = (search rules, (search rules, sym (spliced-nil c.args.part.now 0)))
 
-slice_write_part : tie.Need-slice-write-part invariant_loop decreases_loop
+slice_write_part : tie.Need-bounds-part-i invariant_loop decreases_loop
 slice_write_part c = search rules
 
-add_i : tie.Need-overflow-add-i invariant_loop decreases_loop
+add_i : tie.Need-overflow_add-i invariant_loop decreases_loop
 add_i c = search rules
 
-loop_less : tie.Need-loop-smaller invariant_loop decreases_loop
+loop_less : tie.Need-loop-i-smaller invariant_loop decreases_loop
 loop_less c = search rules
 
-loop_again : tie.Need-loop-preserved invariant_loop decreases_loop
+loop_again : tie.Need-loop-i-preserved invariant_loop decreases_loop
 loop_again c =
-    let l = c.before.loop in
+    let l = c.before.loop-i in
     let part = c.before.before.args.part.now in (
       omega arith,
       (
@@ -43,12 +43,12 @@ loop_again c =
       ),
     )
 
-same_length : tie.Need-same-length invariant_loop decreases_loop
+same_length : tie.Need-shape_of-part invariant_loop decreases_loop
 same_length c = search rules
 
 returns : tie.Need-returns invariant_loop decreases_loop
 returns c =
-    let l = c.before.loop in
+    let l = c.before.loop-i in
     let part = c.before.before.args.part.now in
     let e : l.i ≡ length part = omega arith in
     l.invariant.1.1

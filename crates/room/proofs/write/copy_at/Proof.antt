@@ -12,33 +12,33 @@ use Rattle.room.proofs.Spliced.{set-take-behind}
 use Rattle.room.proofs.write.copy_at.Statement.{statement}
 use Rattle.room.proofs.write.copy_at.Tie as tie
 
-abbrev invariant_loop : tie.invariant-loop
+abbrev invariant_loop : tie.invariant-loop-i
 invariant_loop part₀ at from n i₀ part i = (i ≤ n) × ((length part ≡ length part₀) × (part ≡ spliced part₀ at (take i from)))
 
-abbrev decreases_loop : tie.decreases-loop
+abbrev decreases_loop : tie.decreases-loop-i
 decreases_loop part₀ at from n i₀ part i = n - i
 
-loop_holds : tie.Need-loop-init invariant_loop decreases_loop
+loop_holds : tie.Need-loop-i-init invariant_loop decreases_loop
 loop_holds c = (search rules, (search rules, sym (spliced-nil c.args.part.now c.args.at)))
 
-shared_slice_read-part : tie.Need-shared-slice-read-part invariant_loop decreases_loop
+shared_slice_read-part : tie.Need-bounds-from-i invariant_loop decreases_loop
 shared_slice_read-part c = search rules
 
-add-part : tie.Need-overflow-add-part invariant_loop decreases_loop
+add-part : tie.Need-overflow_add-part invariant_loop decreases_loop
 add-part c = search rules
 
-slice_write_part : tie.Need-slice-write-part invariant_loop decreases_loop
+slice_write_part : tie.Need-bounds-part-at invariant_loop decreases_loop
 slice_write_part c = search rules
 
-add_i : tie.Need-overflow-add-i invariant_loop decreases_loop
+add_i : tie.Need-overflow_add-i invariant_loop decreases_loop
 add_i c = search rules
 
-loop_less : tie.Need-loop-smaller invariant_loop decreases_loop
+loop_less : tie.Need-loop-i-smaller invariant_loop decreases_loop
 loop_less c = search rules
 
-loop_again : tie.Need-loop-preserved invariant_loop decreases_loop
+loop_again : tie.Need-loop-i-preserved invariant_loop decreases_loop
 loop_again c =
-    let l = c.before.before.loop in
+    let l = c.before.before.loop-i in
     let a = c.before.before.before.args in (
       omega arith,
       (
@@ -48,12 +48,12 @@ loop_again c =
       ),
     )
 
-same_length : tie.Need-same-length invariant_loop decreases_loop
+same_length : tie.Need-shape_of-part invariant_loop decreases_loop
 same_length c = search rules
 
 returns : tie.Need-returns invariant_loop decreases_loop
 returns c =
-    let l = c.before.loop in
+    let l = c.before.loop-i in
     let a = c.before.before.args in
     let e : l.i ≡ a.n = omega arith in
     l.invariant.1.1 ∙ ap (λ (k : ℕ). spliced a.part.now a.at (take k a.from.now)) e

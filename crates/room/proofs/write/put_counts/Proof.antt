@@ -10,13 +10,13 @@ use Rattle.numbers.proofs.Spliced.{spliced-twice}
 use Rattle.room.proofs.write.put_counts.Statement.{statement}
 use Rattle.room.proofs.write.put_counts.Tie as tie
 
-put-two_requires : tie.Need-put-two-requires
+put-two_requires : tie.Need-put_two-requires
 put-two_requires c κs = search rules
 
-put-two_requires_2 : tie.Need-put-two-requires-2
+put-two_requires_2 : tie.Need-put_two-requires-2
 put-two_requires_2 c κs = search rules
 
-same_length : tie.Need-same-length
+same_length : tie.Need-shape_of-head
 same_length c = search rules
 
 returns : tie.Need-returns
@@ -26,9 +26,9 @@ returns c =
     let a = one.before.before.before.args in
     let n : List ℕ = bytes 2 a.readings in
     let t : List ℕ = bytes 2 a.tokens in
-    two.put-two2.ensures
+    two.put_two-2.ensures
     ∙ ap (λ (h : List ℕ). spliced h 6 t) one.put_two.ensures
-    ∙ spliced-twice a.head.now 4 n (omega arith) 6 t (omega (arith, length-bytes 2 a.readings))
+    ∙ spliced-twice a.head-1.now 4 n (omega arith) 6 t (omega (arith, length-bytes 2 a.readings))
 
-pub put-counts_spec : {M : Type 1} → statement M
-put-counts_spec = tie.close (tie.spec put-two_requires put-two_requires_2 same_length returns)
+pub put_counts_spec : {M : Type 1} → statement M
+put_counts_spec = tie.close (tie.spec put-two_requires put-two_requires_2 same_length returns)

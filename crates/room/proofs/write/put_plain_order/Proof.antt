@@ -14,31 +14,31 @@ use Rattle.room.proofs.Spliced.{set-behind, spliced-whole}
 use Rattle.room.proofs.write.put_plain_order.Statement.{statement}
 use Rattle.room.proofs.write.put_plain_order.Tie as tie
 
-abbrev invariant_loop : tie.invariant-loop
+abbrev invariant_loop : tie.invariant-loop-i
 invariant_loop order₀ i₀ order i = (i ≤ 256) × ((length order ≡ length order₀) × (order ≡ spliced order₀ 0 (below i)))
 
-abbrev decreases_loop : tie.decreases-loop
+abbrev decreases_loop : tie.decreases-loop-i
 decreases_loop order₀ i₀ order i = 256 - i
 
-loop_holds : tie.Need-loop-init invariant_loop decreases_loop
+loop_holds : tie.Need-loop-i-init invariant_loop decreases_loop
 unfolding below
 loop_holds c = (search rules, (search rules, sym (spliced-nil c.args.order.now 0)))
 
-cast_order : tie.Need-overflow-cast-order invariant_loop decreases_loop
+cast_order : tie.Need-overflow_cast-order invariant_loop decreases_loop
 cast_order c = search rules
 
-slice_write_order : tie.Need-slice-write-order invariant_loop decreases_loop
+slice_write_order : tie.Need-bounds-order-i invariant_loop decreases_loop
 slice_write_order c = search rules
 
-add_i : tie.Need-overflow-add-i invariant_loop decreases_loop
+add_i : tie.Need-overflow_add-i invariant_loop decreases_loop
 add_i c = search rules
 
-loop_less : tie.Need-loop-smaller invariant_loop decreases_loop
+loop_less : tie.Need-loop-i-smaller invariant_loop decreases_loop
 loop_less c = search rules
 
-loop_again : tie.Need-loop-preserved invariant_loop decreases_loop
+loop_again : tie.Need-loop-i-preserved invariant_loop decreases_loop
 loop_again c =
-    let l = c.before.loop in
+    let l = c.before.loop-i in
     let order = c.before.before.args.order.now in (
       omega arith,
       (
@@ -49,12 +49,12 @@ loop_again c =
       ),
     )
 
-same_length : tie.Need-same-length invariant_loop decreases_loop
+same_length : tie.Need-shape_of-order invariant_loop decreases_loop
 same_length c = search rules
 
 returns : tie.Need-returns invariant_loop decreases_loop
 returns c =
-    let l = c.before.loop in
+    let l = c.before.loop-i in
     let order = c.before.before.args.order.now in
     let e : l.i ≡ 256 = omega arith in
     l.invariant.1.1 ∙ ap (λ (k : ℕ). spliced order 0 (below k)) e ∙ spliced-whole order (below 256) (omega (arith, length-below 256))

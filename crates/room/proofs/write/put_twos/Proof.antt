@@ -14,37 +14,37 @@ use Rattle.room.proofs.Twos.{length-twos_bytes, twos_bytes-behind}
 use Rattle.room.proofs.write.put_twos.Statement.{statement}
 use Rattle.room.proofs.write.put_twos.Tie as tie
 
-abbrev invariant_loop : tie.invariant-loop
+abbrev invariant_loop : tie.invariant-loop-i
 invariant_loop part₀ numbers i₀ part i = (i ≤ length numbers) × ((length part ≡ length part₀) × (part ≡ spliced part₀ 0 (twos_bytes (take i numbers))))
 
-abbrev decreases_loop : tie.decreases-loop
+abbrev decreases_loop : tie.decreases-loop-i
 decreases_loop part₀ numbers i₀ part i = length numbers - i
 
-loop_holds : tie.Need-loop-init invariant_loop decreases_loop
+loop_holds : tie.Need-loop-i-init invariant_loop decreases_loop
 unfolding twos_bytes
 loop_holds c = (search rules, (search rules, sym (spliced-nil c.before.before.args.part.now 0)))
 
-mul_put-two : tie.Need-overflow-mul-put-two invariant_loop decreases_loop
+mul_put-two : tie.Need-overflow_mul-i invariant_loop decreases_loop
 mul_put-two c = search rules
 
-mul_put-two_2 : tie.Need-overflow-mul-put-two-2 invariant_loop decreases_loop
+mul_put-two_2 : tie.Need-offset_bounds-numbers-i invariant_loop decreases_loop
 mul_put-two_2 c = search rules
 
-shared_slice_read-put-two : tie.Need-shared-slice-read-put-two invariant_loop decreases_loop
+shared_slice_read-put-two : tie.Need-bounds-numbers-i invariant_loop decreases_loop
 shared_slice_read-put-two c = search rules
 
-put-two_requires : tie.Need-put-two-requires invariant_loop decreases_loop
+put-two_requires : tie.Need-put_two-requires invariant_loop decreases_loop
 put-two_requires c κs = search rules
 
-add_i : tie.Need-overflow-add-i invariant_loop decreases_loop
+add_i : tie.Need-overflow_add-i invariant_loop decreases_loop
 add_i c = search rules
 
-loop_less : tie.Need-loop-smaller invariant_loop decreases_loop
+loop_less : tie.Need-loop-i-smaller invariant_loop decreases_loop
 loop_less c = search rules
 
-loop_again : tie.Need-loop-preserved invariant_loop decreases_loop
+loop_again : tie.Need-loop-i-preserved invariant_loop decreases_loop
 loop_again c =
-    let l = c.before.before.before.before.before.before.loop in
+    let l = c.before.before.before.before.before.before.loop-i in
     let a = c.before.before.before.before.before.before.before.before.before.args in
     let put = c.before.before.put_two in (
       omega arith,
@@ -52,26 +52,26 @@ loop_again c =
         omega arith,
         put.ensures
             ∙ ap (λ (p : List ℕ). spliced p (l.i * 2) (bytes 2 (get_or a.numbers.now l.i 0))) l.invariant.1.1
-            ∙ twos_bytes-behind a.part.now a.numbers.now l.i (omega arith) (omega arith),
+            ∙ twos_bytes-behind a.part-1.now a.numbers.now l.i (omega arith) (omega arith),
       ),
     )
 
-same_length : tie.Need-same-length invariant_loop decreases_loop
+same_length : tie.Need-shape_of-part invariant_loop decreases_loop
 same_length c = search rules
 
 returns : tie.Need-returns invariant_loop decreases_loop
 returns c =
-    let l = c.before.loop in
+    let l = c.before.loop-i in
     let a = c.before.before.before.before.args in
     let numbers = a.numbers.now in
     let e : l.i ≡ length numbers = omega arith in
     l.invariant.1.1
-    ∙ ap (λ (k : ℕ). spliced a.part.now 0 (twos_bytes (take k numbers))) e
-    ∙ ap (λ (xs : List ℕ). spliced a.part.now 0 (twos_bytes xs)) (take-length numbers)
-    ∙ spliced-whole a.part.now (twos_bytes numbers) (omega (arith, length-twos_bytes numbers))
+    ∙ ap (λ (k : ℕ). spliced a.part-1.now 0 (twos_bytes (take k numbers))) e
+    ∙ ap (λ (xs : List ℕ). spliced a.part-1.now 0 (twos_bytes xs)) (take-length numbers)
+    ∙ spliced-whole a.part-1.now (twos_bytes numbers) (omega (arith, length-twos_bytes numbers))
 
-pub put-twos_spec : {M : Type 1} → statement M
-put-twos_spec =
+pub put_twos_spec : {M : Type 1} → statement M
+put_twos_spec =
     tie.close
     (tie.spec
     invariant_loop

@@ -15,71 +15,71 @@ use Rattle.room.proofs.write.write_counts.Tie as tie
 
 -- ---- the room after each of the first two writes, and that it is still large
 
-abbrev start_1 : tie.After-room → tie.Start
+abbrev start_1 : tie.After-room-1 → tie.Start
 start_1 c = c.before.before.before.before.before.before
 
-abbrev room_1 : tie.After-room → List ℕ
-room_1 c = put (start_1 c).args.room.now 8688 64 c.before.put-table.new.0
+abbrev room_1 : tie.After-room-1 → List ℕ
+room_1 c = put (start_1 c).args.room.now 8688 64 c.before.put_table.new.0
 
-large_1 : (c : tie.After-room) → 18288 ≤ length (room_1 c)
+large_1 : (c : tie.After-room-1) → 18288 ≤ length (room_1 c)
 large_1 c =
     let s = start_1 c in
-    large_kept s.args.room.now (room_1 c) c.room.given.1 s.pre.0
+    large_kept s.args.room.now (room_1 c) c.room-1.given.1 s.requires.0
 
-abbrev room_2 : tie.After-room2 → List ℕ
-room_2 c = put (room_1 c.before.before.before.before) 8752 64 c.before.put-table2.new.0
+abbrev room_2 : tie.After-room-2-1 → List ℕ
+room_2 c = put (room_1 c.before.before.before.before) 8752 64 c.before.put_table-2.new.0
 
-large_2 : (c : tie.After-room2) → 18288 ≤ length (room_2 c)
+large_2 : (c : tie.After-room-2-1) → 18288 ≤ length (room_2 c)
 large_2 c =
     let b = c.before.before.before.before in
-    large_kept (room_1 b) (room_2 c) c.room2.given.1 (large_1 b)
+    large_kept (room_1 b) (room_2 c) c.room-2-1.given.1 (large_1 b)
 
 -- ---- the needs
 
-sub_put_table : tie.Need-overflow-sub-put-table
+sub_put_table : tie.Need-slice_bounds-put_table-count
 sub_put_table c = search rules
 
-part-put_table_start : tie.Need-slice-bounds-put-table-start
+part-put_table_start : tie.Need-slice_bounds-put_table-start
 part-put_table_start c = search rules
 
-part-put_table_end : tie.Need-slice-bounds-put-table-end
+part-put_table_end : tie.Need-slice_bounds-put_table-end
 part-put_table_end c = search rules
 
-put_table_requires : tie.Need-put-table-requires
+put_table_requires : tie.Need-put_table-requires
 put_table_requires c κs = search rules
 
-sub_put_table_2 : tie.Need-overflow-sub-put-table-2
+sub_put_table_2 : tie.Need-slice_bounds-put_table-count-2
 sub_put_table_2 c = search rules
 
-part-put_table_start_2 : tie.Need-slice-bounds-put-table-start-2
+part-put_table_start_2 : tie.Need-slice_bounds-put_table-start-2
 part-put_table_start_2 c = search rules
 
-part-put_table_end_2 : tie.Need-slice-bounds-put-table-end-2
+part-put_table_end_2 : tie.Need-slice_bounds-put_table-end-2
 part-put_table_end_2 c = search rules
 
-put_table_requires_2 : tie.Need-put-table-requires-2
+put_table_requires_2 : tie.Need-put_table-requires-2
 put_table_requires_2 c κs =
     let b = c.before.before in
     (large-part (room_1 b) 8752 64 (lit≤ tt) (large_1 b), (start_1 b).requires.1.1)
 
-sub_put-counts : tie.Need-overflow-sub-put-counts
+sub_put-counts : tie.Need-slice_bounds-put_counts-count
 sub_put-counts c = search rules
 
-part-put-counts-start : tie.Need-slice-bounds-put-counts-start
+part-put-counts-start : tie.Need-slice_bounds-put_counts-start
 part-put-counts-start c = search rules
 
-part-put-counts-end : tie.Need-slice-bounds-put-counts-end
+part-put-counts-end : tie.Need-slice_bounds-put_counts-end
 part-put-counts-end c = le_trans (lit≤ tt) (large_2 c.before)
 
-put-counts_requires : tie.Need-put-counts-requires
+put-counts_requires : tie.Need-put_counts-requires
 put-counts_requires c κs = search rules
 
-same_length : tie.Need-same-length
+same_length : tie.Need-shape_of-room
 same_length c =
     let three = c.before in
     let two = three.before.before.before.before in
     let one = two.before.before.before.before in
-    three.room3.given.1 ∙ two.room2.given.1 ∙ one.room.given.1
+    three.room-3-1.given.1 ∙ two.room-2-1.given.1 ∙ one.room-1.given.1
 
 returns : tie.Need-returns
 returns c = λ T fits.
@@ -88,12 +88,12 @@ returns c = λ T fits.
     let one = two.before.before.before.before in
     let s = start_1 one in
     let a = s.args in
-    let l0 = a.room.now in
+    let l0 = a.room-1.now in
     counted-written T a.readings a.tokens a.ends.now a.completes.now
-    l0 (room_1 one) (room_2 two) (put (room_2 two) 0 16 three.before.put-counts.new.0) s.pre.0
-    (ap (put l0 8688 64) one.before.put-table.ensures) one.room.given.1
-    (ap (put (room_1 one) 8752 64) two.before.put-table2.ensures) two.room2.given.1
-    (ap (put (room_2 two) 0 16) three.before.put-counts.ensures) three.room3.given.1
+    l0 (room_1 one) (room_2 two) (put (room_2 two) 0 16 three.before.put_counts.new.0) s.requires.0
+    (ap (put l0 8688 64) one.before.put_table.ensures) one.room-1.given.1
+    (ap (put (room_1 one) 8752 64) two.before.put_table-2.ensures) two.room-2-1.given.1
+    (ap (put (room_2 two) 0 16) three.before.put_counts.ensures) three.room-3-1.given.1
 
 pub write_counts_spec : {M : Type 1} → statement M
 write_counts_spec =

@@ -7,57 +7,57 @@ use Rattle.row.proofs.OrderLaws.{Between, between-all, between-met, between-abov
 use Rattle.row.proofs.order.rank_of.Statement.{statement}
 use Rattle.row.proofs.order.rank_of.Tie as tie
 
-abbrev invariant_loop : tie.invariant-loop
+abbrev invariant_loop : tie.invariant-loop-low
 invariant_loop order slots n w low₀ high₀ low high = Between slots w order n low high
 
-abbrev decreases_loop : tie.decreases-loop
+abbrev decreases_loop : tie.decreases-loop-low
 decreases_loop order slots n w low₀ high₀ low high = high - low
 
 -- the place in the middle
-abbrev mid : tie.At-loop invariant_loop decreases_loop → ℕ
-mid c = (c.loop.low + c.loop.high) / 2
+abbrev mid : tie.At-loop-low invariant_loop decreases_loop → ℕ
+mid c = (c.loop-low.low + c.loop-low.high) / 2
 
-loop_holds : tie.Need-loop-init invariant_loop decreases_loop
+loop_holds : tie.Need-loop-low-init invariant_loop decreases_loop
 loop_holds c = between-all _ _ _ _ (omega arith)
 
-add_mid : tie.Need-overflow-add-mid invariant_loop decreases_loop
+add_mid : tie.Need-overflow_add-mid invariant_loop decreases_loop
 add_mid c = search rules
 
-shared_slice_read-reading-at : tie.Need-shared-slice-read-reading-at invariant_loop decreases_loop
+shared_slice_read-reading-at : tie.Need-bounds-order-mid invariant_loop decreases_loop
 shared_slice_read-reading-at c = search rules
 
-cast_reading-at : tie.Need-overflow-cast-reading-at invariant_loop decreases_loop
-cast_reading-at c = omega (arith, c.shared-slice-known3.given (mid c.before.before))
+cast_reading-at : tie.Need-overflow_cast-order invariant_loop decreases_loop
+cast_reading-at c = omega (arith, c.shared_slice_known-in-loop-low-1.given (mid c.before.before))
 
-reading-at_requires : tie.Need-reading-at-requires invariant_loop decreases_loop
-reading-at_requires c κs = omega (arith, c.shared-slice-known3.given (mid c.before.before))
+reading-at_requires : tie.Need-reading_at-r-requires invariant_loop decreases_loop
+reading-at_requires c κs = omega (arith, c.shared_slice_known-in-loop-low-1.given (mid c.before.before))
 
-is-less_requires : tie.Need-is-less-requires invariant_loop decreases_loop
+is-less_requires : tie.Need-is_less-requires invariant_loop decreases_loop
 is-less_requires c κs = search rules
 
-add_low : tie.Need-overflow-add-low invariant_loop decreases_loop
+add_low : tie.Need-overflow_add-low invariant_loop decreases_loop
 add_low c = search rules
 
-loop_less : tie.Need-loop-smaller invariant_loop decreases_loop
+loop_less : tie.Need-loop-low-smaller-then-is_less invariant_loop decreases_loop
 loop_less c = search rules
 
-loop_again : tie.Need-loop-preserved invariant_loop decreases_loop
+loop_again : tie.Need-loop-low-preserved-then-is_less invariant_loop decreases_loop
 loop_again c =
     let e = c.before.before in
     let l = e.before.before.before in
-    between-above _ _ _ _ (omega arith) _ _ l.loop.invariant (mid l) (omega arith) (rw (← e.reading-at.ensures, ← c.before.is-less.ensures) c.if1.true)
+    between-above _ _ _ _ (omega arith) _ _ l.loop-low.invariant (mid l) (omega arith) (rw (← e.reading_at-r.ensures, ← c.before.is_less.ensures) c.if-is_less.true)
 
-loop_less_2 : tie.Need-loop-smaller-2 invariant_loop decreases_loop
+loop_less_2 : tie.Need-loop-low-smaller invariant_loop decreases_loop
 loop_less_2 c = search rules
 
-loop_again_2 : tie.Need-loop-preserved-2 invariant_loop decreases_loop
+loop_again_2 : tie.Need-loop-low-preserved invariant_loop decreases_loop
 loop_again_2 c =
     let e = c.before.before in
     let l = e.before.before.before in
-    between-below _ _ _ _ (omega arith) _ _ l.loop.invariant (mid l) (omega arith) (omega arith) (rw (← e.reading-at.ensures, ← c.before.is-less.ensures) c.if1.false)
+    between-below _ _ _ _ (omega arith) _ _ l.loop-low.invariant (mid l) (omega arith) (omega arith) (rw (← e.reading_at-r.ensures, ← c.before.is_less.ensures) c.if-is_less.false)
 
 returns : tie.Need-returns invariant_loop decreases_loop
-returns c = between-met _ _ _ _ (omega arith) _ _ c.before.loop.invariant (omega arith)
+returns c = between-met _ _ _ _ (omega arith) _ _ c.before.loop-low.invariant (omega arith)
 
 pub rank_of_spec : {M : Type 1} → statement M
 rank_of_spec =

@@ -5,35 +5,35 @@ use Rattle.row.proofs.OrderLaws.{moved_out-set}
 use Rattle.row.proofs.order.take_from.Statement.{statement}
 use Rattle.row.proofs.order.take_from.Tie as tie
 
-slice_read-slot : tie.Need-slice-read-slot
+slice_read-slot : tie.Need-bounds-order-p
 slice_read-slot c = search rules
 
-add_move_down : tie.Need-overflow-add-move-down
+add_move_down : tie.Need-overflow_add-p
 add_move_down c = search rules
 
-sub_move_down : tie.Need-overflow-sub-move-down
+sub_move_down : tie.Need-overflow_sub-n
 sub_move_down c = search rules
 
-sub_move_down_2 : tie.Need-overflow-sub-move-down-2
+sub_move_down_2 : tie.Need-overflow_sub-n-2
 sub_move_down_2 c = search rules
 
-move_down_requires : tie.Need-move-down-requires
+move_down_requires : tie.Need-move_down-requires
 move_down_requires c κs = search rules
 
-sub_order : tie.Need-overflow-sub-order
+sub_order : tie.Need-overflow_sub-order
 sub_order c = search rules
 
-slice_write_order : tie.Need-slice-write-order
+slice_write_order : tie.Need-bounds-order-n
 slice_write_order c = search rules
 
-same_length : tie.Need-same-length
+same_length : tie.Need-shape_of-order
 same_length c = search rules
 
 returns : tie.Need-returns
 returns c =
     let moved = c.before.before in
     let a = moved.before.before.before.before.args in
-    moved_out-set a.order.now _ a.p a.n (omega arith) (omega arith) moved.move_down.ensures
+    moved_out-set a.order-1.now _ a.p a.n (omega arith) (omega arith) moved.move_down.ensures
 
 pub take_from_spec : {M : Type 1} → statement M
 take_from_spec =
