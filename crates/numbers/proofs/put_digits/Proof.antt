@@ -78,7 +78,7 @@ one_left c =
     ⊎_elim
     (λ w.
     let last = last-put l.rest l.y 1 (omega arith) (omega arith) (omega arith) in
-    rw (w.1, w.2) (last.0, (simp length-set (omega arith), (simp length-set (omega arith), last.1 ∙ l.invariant.1.1.1))))
+    rw (w.rest-is, w.y-is) (last.0, (simp length-set (omega arith), (simp length-set (omega arith), last.1 ∙ l.invariant.1.1.1))))
     (λ w. let one = one_digit l.y (omega arith) in rw (w.rest-is, w.y-is) (sym one.1, (omega arith, l.invariant.1.1)))
     c.if-at-eq2.branch-raw
 

@@ -33,7 +33,7 @@ returns c =
     let three = c.before.before in
     let two = three.before.before.before.before in
     let one = two.before.before.before.before in
-    reading_bytes-spliced a.bytes-1.now one.put_four.new.0 two.put_four-2.new.0 three.put_four-3.new.0 (a.i * 12) a.r (omega arith) one.put_four.ensures two.put_four-2.ensures three.put_four-3.ensures
+    reading_bytes-spliced a.bytes.now one.put_four.new.0 two.put_four-2.new.0 three.put_four-3.new.0 (a.i * 12) a.r (omega arith) one.put_four.ensures two.put_four-2.ensures three.put_four-3.ensures
 
 pub put_reading_spec : {M : Type 1} → statement M
 put_reading_spec =

@@ -33,7 +33,7 @@ cast_if6 c = search rules
 constant : (c : tie.In-Constant) →
     let a = c.before.before.before.args in
     let t = c.before.t-1.given.0 in
-    (leb t.0 2 && leb t.1.0 5) ≡ test_fits a.t-1 a.own
+    (leb t.0 2 && leb t.1.0 5) ≡ test_fits a.t a.own
 unfolding test_fits
 constant c = rw c.before.t-1.given.1
 
@@ -45,7 +45,7 @@ position_two c = and_came _ _ _ c.if-place-le2-2.branch-raw (λ w. le-leb _ _ w.
 position : (c : tie.Joined-relation-le5) →
     let a = c.before.before.before.before.before.args in
     let t = c.before.before.before.t-in-Position-1.given.0 in
-    (c.if-relation-le5.value && leb t.1.1.1.0 2) ≡ test_fits a.t-1 a.own
+    (c.if-relation-le5.value && leb t.1.1.1.0 2) ≡ test_fits a.t a.own
 unfolding test_fits
 position c =
     let own = c.before.before.before.before.before.args.own in
@@ -63,7 +63,7 @@ gap_two c = and_came _ _ _ c.if-place-le2-3.branch-raw (λ w. le-leb _ _ w.taken
 gap : (c : tie.Joined-condition-own-2) →
     let a = c.before.before.before.before.before.args in
     let t = c.before.before.before.t-in-Gap-1.given.0 in
-    (c.if-condition-own-2.value && le_z (to_z w64 (of_z w64 t.1.1.1.0)) (to_z w64 (of_z w64 t.1.1.1.1.0))) ≡ test_fits a.t-1 a.own
+    (c.if-condition-own-2.value && le_z (to_z w64 (of_z w64 t.1.1.1.0)) (to_z w64 (of_z w64 t.1.1.1.1.0))) ≡ test_fits a.t a.own
 unfolding test_fits
 gap c =
     let own = c.before.before.before.before.before.args.own in

@@ -25,17 +25,17 @@ no_places_requires_2 c κs = search rules
 returns : tie.Need-returns-in-Accepted
 returns c =
     let a = c.before.before.before.before.before.args in
-    close-accepted a.p _ a.step-1 c.before.before.before.step-1.given.1 _ _ c.enum_told-1.given.1
+    close-accepted a.p _ a.step c.before.before.before.step-1.given.1 _ _ c.enum_told-1.given.1
 
 returns_2 : tie.Need-returns-in-Refused
 returns_2 c =
     let a = c.before.before.before.before.before.before.args in
-    close-refused a.p _ a.step-1 c.before.before.before.before.step-1.given.1 _ c.no_places.ensures _ _ c.before.enum_told-in-Refused-1.given.1
+    close-refused a.p _ a.step c.before.before.before.before.step-1.given.1 _ c.no_places.ensures _ _ c.before.enum_told-in-Refused-1.given.1
 
 returns_3 : tie.Need-returns-in-On
 returns_3 c =
     let a = c.before.before.before.args in
-    close_on a.p _ c.no_places-in-On.ensures a.step-1 _ _ c.before.enum_told-in-On-1.given.1
+    close_on a.p _ c.no_places-in-On.ensures a.step _ _ c.before.enum_told-in-On-1.given.1
 
 pub close_spec : {M : Type 1} → statement M
 close_spec =

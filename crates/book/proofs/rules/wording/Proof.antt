@@ -32,7 +32,7 @@ part-result-end c = search rules
 returns : tie.Need-returns-in_default
 returns c =
     let w = c.before.before.before.wording_place-place in
-    sym (wording-none _ _ w.result-1 _ _ w.ensures c.before.enum_told-1.given.1)
+    sym (wording-none _ _ w.result _ _ w.ensures c.before.enum_told-1.given.1)
 
 -- the wording stands there
 here : (c : tie.In-At) → (c.before.place-1.given.0.0 + 24 ≤ length c.before.before.before.before.before.args.book.now)
@@ -40,7 +40,7 @@ here : (c : tie.In-At) → (c.before.place-1.given.0.0 + 24 ≤ length c.before.
     ≡ rule_wording (read_book c.before.before.before.before.before.args.book.now) c.before.before.before.before.before.args.number)
 here c =
     let w = c.before.before.before.wording_place-place in
-    wording-at _ _ w.result-1 _ w.ensures c.before.place-1.given.1
+    wording-at _ _ w.result _ w.ensures c.before.place-1.given.1
 
 add_to : tie.Need-overflow_add-to
 add_to c = omega (arith, (here c).0)

@@ -60,7 +60,7 @@ put-entry_requires : tie.Need-put_entry-at-requires invariant_loop decreases_loo
 put-entry_requires c κs =
     let l = c.before.before.before.loop-i in
     let a = c.before.before.before.before.before.args in
-    rest_long l.free-1 l.at (length (entry (get_or a.t2 l.i none))) (omega (arith, place c.before.before, l.invariant.1.long))
+    rest_long l.free l.at (length (entry (get_or a.t2 l.i none))) (omega (arith, place c.before.before, l.invariant.1.long))
 
 add_at : tie.Need-overflow_add-at invariant_loop decreases_loop
 add_at c = omega (arith, place c.before.before.before.before.before, c.before.before.put_entry-at.ensures.0)

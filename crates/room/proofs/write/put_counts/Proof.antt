@@ -28,7 +28,7 @@ returns c =
     let t : List ℕ = bytes 2 a.tokens in
     two.put_two-2.ensures
     ∙ ap (λ (h : List ℕ). spliced h 6 t) one.put_two.ensures
-    ∙ spliced-twice a.head-1.now 4 n (omega arith) 6 t (omega (arith, length-bytes 2 a.readings))
+    ∙ spliced-twice a.head.now 4 n (omega arith) 6 t (omega (arith, length-bytes 2 a.readings))
 
 pub put_counts_spec : {M : Type 1} → statement M
 put_counts_spec = tie.close (tie.spec put-two_requires put-two_requires_2 same_length returns)

@@ -52,7 +52,7 @@ loop_again c =
         omega arith,
         put.ensures
             ∙ ap (λ (p : List ℕ). spliced p (l.i * 2) (bytes 2 (get_or a.numbers.now l.i 0))) l.invariant.1.1
-            ∙ twos_bytes-behind a.part-1.now a.numbers.now l.i (omega arith) (omega arith),
+            ∙ twos_bytes-behind a.part.now a.numbers.now l.i (omega arith) (omega arith),
       ),
     )
 
@@ -66,9 +66,9 @@ returns c =
     let numbers = a.numbers.now in
     let e : l.i ≡ length numbers = omega arith in
     l.invariant.1.1
-    ∙ ap (λ (k : ℕ). spliced a.part-1.now 0 (twos_bytes (take k numbers))) e
-    ∙ ap (λ (xs : List ℕ). spliced a.part-1.now 0 (twos_bytes xs)) (take-length numbers)
-    ∙ spliced-whole a.part-1.now (twos_bytes numbers) (omega (arith, length-twos_bytes numbers))
+    ∙ ap (λ (k : ℕ). spliced a.part.now 0 (twos_bytes (take k numbers))) e
+    ∙ ap (λ (xs : List ℕ). spliced a.part.now 0 (twos_bytes xs)) (take-length numbers)
+    ∙ spliced-whole a.part.now (twos_bytes numbers) (omega (arith, length-twos_bytes numbers))
 
 pub put_twos_spec : {M : Type 1} → statement M
 put_twos_spec =

@@ -139,7 +139,7 @@ returns c =
     added-written a.most
     (record { readings = a.readings; tokens = a.tokens; ends = a.ends.now; completes = a.completes.now; order = a.order.now; nodes = a.nodes.now; lasts = a.lasts.now })
     a.slot a.r a.row.now
-    a.room-1.now (room_1 one) (room_2 two) (room_3 three) (room_4 four) (room_5 five) six.before.write_counts.new.0 s.requires.0 s.requires.1
+    a.room.now (room_1 one) (room_2 two) (room_3 three) (room_4 four) (room_5 five) six.before.write_counts.new.0 s.requires.0 s.requires.1
     one.before.copy_at.ensures one.before.copy_at.auto.0
     two.before.copy_at-2.ensures two.before.copy_at-2.auto.0
     three.before.copy_at-3.ensures three.before.copy_at-3.auto.0

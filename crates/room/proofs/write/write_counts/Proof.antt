@@ -88,7 +88,7 @@ returns c = λ T fits.
     let one = two.before.before.before.before in
     let s = start_1 one in
     let a = s.args in
-    let l0 = a.room-1.now in
+    let l0 = a.room.now in
     counted-written T a.readings a.tokens a.ends.now a.completes.now
     l0 (room_1 one) (room_2 two) (put (room_2 two) 0 16 three.before.put_counts.new.0) s.requires.0
     (ap (put l0 8688 64) one.before.put_table.ensures) one.room-1.given.1

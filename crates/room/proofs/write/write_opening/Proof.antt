@@ -215,7 +215,7 @@ returns c =
     let one = two.before.before.before.before in
     let s = start_1 one in
     let a = s.args in
-    let l0 = a.room-1.now in
+    let l0 = a.room.now in
     opened-written a.e a.t a.rules a.conditions a.book.now a.rule-places.now a.rule-conditions.now a.condition_places_lem.now
     l0 (room_1 one) (room_2 two) (room_3 three) (room_4 four) (room_5 five) (room_6 six) (room_7 seven) (put (room_7 seven) 8816 256 eight.before.put_plain_order.new.0)
     s.requires

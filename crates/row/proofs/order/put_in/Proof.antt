@@ -32,7 +32,7 @@ returns c =
     let moved = c.before.before.before in
     let copied = moved.before.before.before.before in
     let a = copied.before.before.before.before.args in
-    moved_in-set a.order.now a.next-1.now _ _ a.p a.n (omega arith) (omega arith) (omega arith) (omega arith) copied.copy_from.ensures moved.copy_from-2.ensures
+    moved_in-set a.order.now a.next.now _ _ a.p a.n (omega arith) (omega arith) (omega arith) (omega arith) copied.copy_from.ensures moved.copy_from-2.ensures
 
 pub put_in_spec : {M : Type 1} → statement M
 put_in_spec =

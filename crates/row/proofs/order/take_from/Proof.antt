@@ -33,7 +33,7 @@ returns : tie.Need-returns
 returns c =
     let moved = c.before.before in
     let a = moved.before.before.before.before.args in
-    moved_out-set a.order-1.now _ a.p a.n (omega arith) (omega arith) moved.move_down.ensures
+    moved_out-set a.order.now _ a.p a.n (omega arith) (omega arith) moved.move_down.ensures
 
 pub take_from_spec : {M : Type 1} → statement M
 take_from_spec =
