@@ -13,7 +13,7 @@ use Rattle.book.specs.Steps.{rule_noted, condition_noted}
 use borrow.Author.Tests.{lt-leb, le-ltb, ne_eqb}
 use Rattle.book.specs.Rules.{Rule, last_or, on_last, no_rule, with_condition, with_test, condition_count, standing, tests_size, conditions_size, rules_size, rule_places, condition_places_in, condition_places, padded, places_of}
 use Rattle.book.proofs.Judged.{standing-some}
-use Rattle.book.proofs.Lasts.{lastOr-snoc, length-onLast, lastOr-onLast, map-onLast, map-onLast-same}
+use Rattle.book.proofs.Lasts.{last_or_snoc, length-on_last, last_or-on_last, map-on_last, map-on_last-same}
 
 -- a rule that has no condition yet
 abbrev pub bare : ℕ → List ℕ → Rule
@@ -35,7 +35,7 @@ condition_count_condition (r ∷ (q ∷ rules)) h = omega (arith, condition_coun
 pub condition_count_test : (t : Test) (rules : List Rule) → condition_count (on_last (with_test t) rules) ≡ condition_count rules
 unfolding condition_count on_last with_test
 condition_count_test t [] = refl
-condition_count_test t (r ∷ []) = rw (length-onLast (λ tests. tests ++ t ∷ []) r.conditions)
+condition_count_test t (r ∷ []) = rw (length-on_last (λ tests. tests ++ t ∷ []) r.conditions)
 condition_count_test t (r ∷ (q ∷ rules)) = omega (arith, condition_count_test t (q ∷ rules))
 
 -- ---- places
@@ -153,7 +153,7 @@ length-with_condition r = length-append r.conditions ([] ∷ [])
 
 length-with_test : (t : Test) (r : Rule) → length (with_test t r).conditions ≡ length r.conditions
 unfolding with_test
-length-with_test t r = length-onLast (λ tests. tests ++ t ∷ []) r.conditions
+length-with_test t r = length-on_last (λ tests. tests ++ t ∷ []) r.conditions
 
 -- ---- one record more
 
@@ -162,25 +162,25 @@ module _ (rules : List Rule) where
   unfolding standing after last_or
   standing-bare n w =
       let l : length (rules ++ bare n w ∷ []) ≡ length rules + 1 = length-append rules (bare n w ∷ []) in
-      let e : last_or no_rule (rules ++ bare n w ∷ []) ≡ bare n w = lastOr-snoc no_rule rules (bare n w) in
+      let e : last_or no_rule (rules ++ bare n w ∷ []) ≡ bare n w = last_or_snoc no_rule rules (bare n w) in
       rw (l, e, condition_count-bare rules n w)
 
-  pub standing-condition : 1 ≤ length rules → standing (on_last with_condition rules) ≡ after (standing rules) r.Condition
+  pub standing_condition : 1 ≤ length rules → standing (on_last with_condition rules) ≡ after (standing rules) r.Condition
   unfolding standing after with_condition
-  standing-condition h =
+  standing_condition h =
       let last = last_or no_rule rules in
-      let e : last_or no_rule (on_last with_condition rules) ≡ with_condition last = lastOr-onLast with_condition no_rule rules h in
+      let e : last_or no_rule (on_last with_condition rules) ≡ with_condition last = last_or-on_last with_condition no_rule rules h in
       let l : length (last.conditions ++ [] ∷ []) ≡ length last.conditions + 1 = length-append last.conditions ([] ∷ []) in
-      rw (e, length-onLast with_condition rules, condition_count_condition rules h, l, lastOr-snoc [] last.conditions [])
+      rw (e, length-on_last with_condition rules, condition_count_condition rules h, l, last_or_snoc [] last.conditions [])
 
-  pub standing-test : (t : Test) → 1 ≤ length (last_or no_rule rules).conditions → standing (on_last (with_test t) rules) ≡ after (standing rules) (r.Test t)
+  pub standing_test : (t : Test) → 1 ≤ length (last_or no_rule rules).conditions → standing (on_last (with_test t) rules) ≡ after (standing rules) (r.Test t)
   unfolding standing after with_test
-  standing-test t h =
+  standing_test t h =
       let last = last_or no_rule rules in
       let more : List Test → List Test = λ tests. tests ++ t ∷ [] in
-      let e : last_or no_rule (on_last (with_test t) rules) ≡ with_test t last = lastOr-onLast (with_test t) no_rule rules (standing-some rules h) in
+      let e : last_or no_rule (on_last (with_test t) rules) ≡ with_test t last = last_or-on_last (with_test t) no_rule rules (standing-some rules h) in
       let l : length (last_or [] last.conditions ++ t ∷ []) ≡ length (last_or [] last.conditions) + 1 = length-append (last_or [] last.conditions) (t ∷ []) in
-      rw (e, length-onLast (with_test t) rules, condition_count_test t rules, length-onLast more last.conditions, lastOr-onLast more [] last.conditions h, l)
+      rw (e, length-on_last (with_test t) rules, condition_count_test t rules, length-on_last more last.conditions, last_or-on_last more [] last.conditions h, l)
 
   pub places-bare : (n : ℕ) (w : List ℕ) → length rules < 32 → rule_noted (places_of rules) (standing rules) (rules_size rules) ≡ places_of (rules ++ bare n w ∷ [])
   unfolding rule_noted places_of standing
@@ -192,19 +192,19 @@ module _ (rules : List Rule) where
       sym (ap (padded 32) (counts-bare rules n w) ∙ padded_zero 32 (counts rules) (omega (arith, length-counts rules))) in
       rw (lt-leb 32 (length rules) h, p, q, condition_places-bare 0 rules n w)
 
-  pub places-condition : 1 ≤ length rules → length rules ≤ 32 → length (last_or no_rule rules).conditions < 6 → condition_count rules < 192
+  pub places_condition : 1 ≤ length rules → length rules ≤ 32 → length (last_or no_rule rules).conditions < 6 → condition_count rules < 192
       → condition_noted (places_of rules) (standing rules) (rules_size rules) ≡ places_of (on_last with_condition rules)
   unfolding condition_noted places_of standing
-  places-condition h h32 h6 h192 =
+  places_condition h h32 h6 h192 =
       let last = last_or no_rule rules in
       let p : set (padded 32 (counts rules)) (length rules - 1) (length last.conditions + 1) ≡ padded 32 (counts (on_last with_condition rules)) =
       padded_change 32 (length rules - 1) (length last.conditions + 1) (counts rules) (omega (arith, length-counts rules))
-      ∙ ap (padded 32) (sym (map-onLast (λ r. length r.conditions) with_condition no_rule rules h ∙ ap (set (counts rules) (length rules - 1)) (length-with_condition last))) in
+      ∙ ap (padded 32) (sym (map-on_last (λ r. length r.conditions) with_condition no_rule rules h ∙ ap (set (counts rules) (length rules - 1)) (length-with_condition last))) in
       let q : set (padded 192 (condition_places 0 rules)) (condition_count rules) (rules_size rules + 1) ≡ padded 192 (condition_places 0 (on_last with_condition rules)) =
       padded-set 192 (condition_count rules) (rules_size rules + 1) (condition_places 0 rules) (sym (length-condition_places 0 rules)) h192
       ∙ ap (padded 192) (rw (← zero-add (rules_size rules)) (sym (condition_places_condition 0 rules h))) in
       simp (ne_eqb (length rules) 0 (λ (e : length rules ≡ 0). omega arith), le-ltb 32 (length rules) h32, lt-leb 6 (length last.conditions) h6, lt-leb 192 (condition_count rules) h192, p, q, rule_places-on_last with_condition 0 rules)
 
-  pub places-test : (t : Test) → places_of rules ≡ places_of (on_last (with_test t) rules)
+  pub places_test : (t : Test) → places_of rules ≡ places_of (on_last (with_test t) rules)
   unfolding places_of
-  places-test t = simp (rule_places-on_last (with_test t) 0 rules, map-onLast-same (λ (r : Rule). length r.conditions) (with_test t) (length-with_test t) rules, condition_places_test t 0 rules)
+  places_test t = simp (rule_places-on_last (with_test t) 0 rules, map-on_last-same (λ (r : Rule). length r.conditions) (with_test t) (length-with_test t) rules, condition_places_test t 0 rules)

@@ -38,12 +38,12 @@ module _ {A : Type 0} {size : A → ℕ} {total : List A → ℕ} (sums : Sums s
   total-append [] a = omega (arith, sums.none, sums.more a [])
   total-append (b ∷ l) a = omega (arith, total-append l a, sums.more b (l ++ a ∷ []), sums.more b l)
 
-  pub total-onLast : (f : A → A) (n : ℕ) (d : A) (l : List A) → 0 < length l → size (f (last_or d l)) ≡ size (last_or d l) + n → total (on_last f l) ≡ total l + n
+  pub total-on_last : (f : A → A) (n : ℕ) (d : A) (l : List A) → 0 < length l → size (f (last_or d l)) ≡ size (last_or d l) + n → total (on_last f l) ≡ total l + n
   unfolding last_or on_last
-  total-onLast f n d [] h e = absurd (omega arith)
-  total-onLast f n d (a ∷ []) h e = omega (arith, sums.more (f a) [], sums.more a [])
-  total-onLast f n d (a ∷ (b ∷ l)) h e =
-      omega (arith, sums.more a (on_last f (b ∷ l)), sums.more a (b ∷ l), total-onLast f n d (b ∷ l) (omega arith) e)
+  total-on_last f n d [] h e = absurd (omega arith)
+  total-on_last f n d (a ∷ []) h e = omega (arith, sums.more (f a) [], sums.more a [])
+  total-on_last f n d (a ∷ (b ∷ l)) h e =
+      omega (arith, sums.more a (on_last f (b ∷ l)), sums.more a (b ∷ l), total-on_last f n d (b ∷ l) (omega arith) e)
 
   module _ (Stands : ℕ → A → Type 0) where
     pub laid-append : (at : ℕ) (l : List A) (a : A) → Laid size Stands at l → Stands (at + total l) a → Laid size Stands at (l ++ a ∷ [])
@@ -53,11 +53,11 @@ module _ {A : Type 0} {size : A → ℕ} {total : List A → ℕ} (sums : Sums s
         (h.0, laid-append (at + size b) l a h.1 (rw e at s))
 
     -- the last one ends where all end
-    pub laid-onLast : (f : A → A) (d : A) (at : ℕ) (l : List A) → Laid size Stands at l
+    pub laid-on_last : (f : A → A) (d : A) (at : ℕ) (l : List A) → Laid size Stands at l
         → ((p : ℕ) → p + size (last_or d l) ≡ at + total l → Stands p (last_or d l) → Stands p (f (last_or d l)))
         → Laid size Stands at (on_last f l)
     unfolding last_or on_last
-    laid-onLast f d at [] h s = tt
-    laid-onLast f d at (a ∷ []) h s = (s at (omega (arith, sums.none, sums.more a [])) h.0, tt)
-    laid-onLast f d at (a ∷ (b ∷ l)) h s =
-        (h.0, laid-onLast f d (at + size a) (b ∷ l) h.1 (λ p e. s p (omega (arith, e, sums.more a (b ∷ l)))))
+    laid-on_last f d at [] h s = tt
+    laid-on_last f d at (a ∷ []) h s = (s at (omega (arith, sums.none, sums.more a [])) h.0, tt)
+    laid-on_last f d at (a ∷ (b ∷ l)) h s =
+        (h.0, laid-on_last f d (at + size a) (b ∷ l) h.1 (λ p e. s p (omega (arith, e, sums.more a (b ∷ l)))))

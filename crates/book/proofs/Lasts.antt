@@ -7,35 +7,35 @@ use lib.ListN.{length, set}
 use Rattle.book.specs.Rules.{last_or, on_last}
 
 module _ {A : Type 0} where
-  pub lastOr-snoc : (d : A) (l : List A) (a : A) → last_or d (l ++ a ∷ []) ≡ a
+  pub last_or_snoc : (d : A) (l : List A) (a : A) → last_or d (l ++ a ∷ []) ≡ a
   unfolding last_or
-  lastOr-snoc d [] a = refl
-  lastOr-snoc d (b ∷ l) a = lastOr-snoc b l a
+  last_or_snoc d [] a = refl
+  last_or_snoc d (b ∷ l) a = last_or_snoc b l a
 
-  pub length-onLast : (f : A → A) (l : List A) → length (on_last f l) ≡ length l
+  pub length-on_last : (f : A → A) (l : List A) → length (on_last f l) ≡ length l
   unfolding on_last
-  length-onLast f [] = refl
-  length-onLast f (a ∷ []) = refl
-  length-onLast f (a ∷ (b ∷ l)) = ap suc (length-onLast f (b ∷ l))
+  length-on_last f [] = refl
+  length-on_last f (a ∷ []) = refl
+  length-on_last f (a ∷ (b ∷ l)) = ap suc (length-on_last f (b ∷ l))
 
-  pub lastOr-onLast : (f : A → A) (d : A) (l : List A) → 1 ≤ length l → last_or d (on_last f l) ≡ f (last_or d l)
+  pub last_or-on_last : (f : A → A) (d : A) (l : List A) → 1 ≤ length l → last_or d (on_last f l) ≡ f (last_or d l)
   unfolding last_or on_last
-  lastOr-onLast f d [] h = absurd (omega arith)
-  lastOr-onLast f d (a ∷ []) h = refl
-  lastOr-onLast f d (a ∷ (b ∷ l)) h = lastOr-onLast f a (b ∷ l) (omega arith)
+  last_or-on_last f d [] h = absurd (omega arith)
+  last_or-on_last f d (a ∷ []) h = refl
+  last_or-on_last f d (a ∷ (b ∷ l)) h = last_or-on_last f a (b ∷ l) (omega arith)
 
   -- what is read off each element but changes in the last alone
-  pub map-onLast : {B : Type 0} (g : A → B) (f : A → A) (d : A) (l : List A) → 1 ≤ length l → map g (on_last f l) ≡ set (map g l) (length l - 1) (g (f (last_or d l)))
+  pub map-on_last : {B : Type 0} (g : A → B) (f : A → A) (d : A) (l : List A) → 1 ≤ length l → map g (on_last f l) ≡ set (map g l) (length l - 1) (g (f (last_or d l)))
   unfolding last_or on_last
-  map-onLast g f d [] h = absurd (omega arith)
-  map-onLast g f d (a ∷ []) h = refl
-  map-onLast {B} g f d (a ∷ (b ∷ l)) h =
+  map-on_last g f d [] h = absurd (omega arith)
+  map-on_last g f d (a ∷ []) h = refl
+  map-on_last {B} g f d (a ∷ (b ∷ l)) h =
       let e : suc (suc (length l)) - 1 ≡ suc (suc (length l) - 1) = omega arith in
-      rw e (ap (λ (k : List B). g a ∷ k) (map-onLast g f a (b ∷ l) (omega arith)))
+      rw e (ap (λ (k : List B). g a ∷ k) (map-on_last g f a (b ∷ l) (omega arith)))
 
   -- what is read off each element and does not change
-  pub map-onLast-same : {B : Type 0} (g : A → B) (f : A → A) → ((a : A) → g (f a) ≡ g a) → (l : List A) → map g (on_last f l) ≡ map g l
+  pub map-on_last-same : {B : Type 0} (g : A → B) (f : A → A) → ((a : A) → g (f a) ≡ g a) → (l : List A) → map g (on_last f l) ≡ map g l
   unfolding on_last
-  map-onLast-same g f same [] = refl
-  map-onLast-same {B} g f same (a ∷ []) = ap (λ (b : B). b ∷ []) (same a)
-  map-onLast-same {B} g f same (a ∷ (b ∷ l)) = ap (λ (k : List B). g a ∷ k) (map-onLast-same g f same (b ∷ l))
+  map-on_last-same g f same [] = refl
+  map-on_last-same {B} g f same (a ∷ []) = ap (λ (b : B). b ∷ []) (same a)
+  map-on_last-same {B} g f same (a ∷ (b ∷ l)) = ap (λ (k : List B). g a ∷ k) (map-on_last-same g f same (b ∷ l))

@@ -14,7 +14,7 @@ use Rattle.book.specs.Rules.{Rule, no_rule, last_or, on_last, with_condition, wi
 use Rattle.book.specs.Read.{accepted, grown, read_book}
 use Rattle.book.specs.Limits.{All, Ascending, ConditionKept, RuleKept, Kept}
 use Rattle.book.proofs.Judged.{rule-taken, condition_taken, test_taken, end-taken, finished_some, standing-some}
-use Rattle.book.proofs.Laid.{length_sums, total-append, total-onLast, laid-append, laid-onLast}
+use Rattle.book.proofs.Laid.{length_sums, total-append, total-on_last, laid-append, laid-on_last}
 use Rattle.book.proofs.RuleAt.{rule-wording-length}
 use Rattle.book.proofs.Walk.{Carried, read-ends}
 
@@ -25,11 +25,11 @@ module _ {A : Type 0} (P : A → Type 0) where
   all_append [] a h p = (p, tt)
   all_append (b ∷ l) a h p = (h.0, all_append l a h.1 p)
 
-  all-onLast : (f : A → A) (d : A) (l : List A) → All P l → (P (last_or d l) → P (f (last_or d l))) → All P (on_last f l)
+  all-on_last : (f : A → A) (d : A) (l : List A) → All P l → (P (last_or d l) → P (f (last_or d l))) → All P (on_last f l)
   unfolding last_or on_last
-  all-onLast f d [] h s = tt
-  all-onLast f d (a ∷ []) h s = (s h.0, tt)
-  all-onLast f d (a ∷ (b ∷ l)) h s = (h.0, all-onLast f d (b ∷ l) h.1 s)
+  all-on_last f d [] h s = tt
+  all-on_last f d (a ∷ []) h s = (s h.0, tt)
+  all-on_last f d (a ∷ (b ∷ l)) h s = (h.0, all-on_last f d (b ∷ l) h.1 s)
 
 ascending-append : (d rule : Rule) (rules : List Rule) → Ascending d.number rules → (last_or d rules).number < rule.number → Ascending d.number (rules ++ rule ∷ [])
 unfolding last_or
@@ -84,16 +84,16 @@ rule_with_condition rule room k =
 
 module _ (t : Test) (rule : Rule) (some : 0 < length rule.conditions) (room : length (last_or [] rule.conditions) < 8)
     (fits : test_fits t (length rule.conditions - 1) ≡ true) where
-  rule-with-test : RuleKept rule → RuleKept (with_test t rule)
+  rule_with_test : RuleKept rule → RuleKept (with_test t rule)
   unfolding with_test
-  rule-with-test k =
+  rule_with_test k =
       let put : List Test → List Test = λ tests. tests ++ t ∷ [] in
       let last : List Test = last_or [] rule.conditions in
       record {
         whole = k.whole;
         printed = k.printed;
-        most = omega (arith, total-onLast length_sums put 0 [] rule.conditions some (omega arith));
-        conditions = laid-onLast length_sums ConditionKept put [] 0 rule.conditions k.conditions (λ p ends c.
+        most = omega (arith, total-on_last length_sums put 0 [] rule.conditions some (omega arith));
+        conditions = laid-on_last length_sums ConditionKept put [] 0 rule.conditions k.conditions (λ p ends c.
             let own : length rule.conditions - 1 ≡ p = omega (arith, ends) in
             record {
               most = omega (arith, c.most, total-append length_sums last t);
@@ -129,15 +129,15 @@ module _ (book : List ℕ) where
       → (RuleKept (last_or no_rule rules) → RuleKept (f (last_or no_rule rules))) → 0 < length rules → Growing rules → Growing (on_last f rules)
   last-changed f rules same keeps some g =
       record {
-        most = omega (arith, g.most, total-onLast length_sums f 0 no_rule rules some (omega arith));
+        most = omega (arith, g.most, total-on_last length_sums f 0 no_rule rules some (omega arith));
         ascending = ascending-on_last f same 0 rules g.ascending;
-        each = all-onLast RuleKept f no_rule rules g.each keeps;
+        each = all-on_last RuleKept f no_rule rules g.each keeps;
         earlier = earlier-on_last f rules g.earlier;
       }
 
-  kept-carried : Carried book (λ at. Growing)
+  kept_carried : Carried book (λ at. Growing)
   unfolding standing with_condition with_test
-  kept-carried =
+  kept_carried =
       record {
         rule = rule-more;
         condition = λ at rules e j.
@@ -145,7 +145,7 @@ module _ (book : List ℕ) where
             last-changed with_condition rules (λ rule. refl) (rule_with_condition (last_or no_rule rules) taken.room) taken.under;
         test = λ at t rules e j.
             let taken = test_taken (standing rules) t j in
-            last-changed (with_test t) rules (λ rule. refl) (rule-with-test t (last_or no_rule rules) taken.under taken.room taken.fits) (standing-some rules taken.under);
+            last-changed (with_test t) rules (λ rule. refl) (rule_with_test t (last_or no_rule rules) taken.under taken.room taken.fits) (standing-some rules taken.under);
       }
 
   -- ---- all records
@@ -153,7 +153,7 @@ module _ (book : List ℕ) where
   pub read_kept : (rules : List Rule) → read_book book ≡ accepted rules → Kept rules
   unfolding standing
   read_kept rules e =
-      let w = (read-ends book (λ at. Growing) kept-carried rules e (record { most = omega arith; ascending = tt; each = tt; earlier = tt })).1 in
+      let w = (read-ends book (λ at. Growing) kept_carried rules e (record { most = omega arith; ascending = tt; each = tt; earlier = tt })).1 in
       let g = w.holds in
       record {
         most = g.most;

@@ -19,7 +19,7 @@ use Rattle.book.specs.Wording.{wording_in, wording_place_in, sought}
 use Rattle.book.specs.Stands.{Laid, TestsStand, ConditionsStand, RulesStand, BookStands, conditions_of}
 use Rattle.book.specs.Limits.{All, ConditionKept, RuleKept, Kept}
 use Rattle.book.proofs.RuleAt.{rule-within, rule-number, rule-wording}
-use Rattle.book.proofs.TestsFrom.{NoTest, testsFrom-none, testsFrom-more}
+use Rattle.book.proofs.TestsFrom.{NoTest, tests_from-none, tests_from-more}
 
 -- ---- the part of the book that a wording's place shows; where it is refused there are no bytes
 
@@ -34,22 +34,22 @@ shows_cond book false p q v w h k = k
 module _ (book : List ℕ) where
   -- ---- rules: their numbers and wordings
 
-  pub rulePlaces-numbers : (at : ℕ) (rules : List Rule) → RulesStand book at rules → map (λ p. uint 2 book (p + 1)) (rule_places at rules) ≡ map (λ rule. rule.number) rules
+  pub rule_places-numbers : (at : ℕ) (rules : List Rule) → RulesStand book at rules → map (λ p. uint 2 book (p + 1)) (rule_places at rules) ≡ map (λ rule. rule.number) rules
   unfolding rule_places
-  rulePlaces-numbers at [] h = refl
-  rulePlaces-numbers at (rule ∷ rules) h = rw (rule-number book at rule.number h.0.begins, rulePlaces-numbers _ rules h.1)
+  rule_places-numbers at [] h = refl
+  rule_places-numbers at (rule ∷ rules) h = rw (rule-number book at rule.number h.0.begins, rule_places-numbers _ rules h.1)
 
-  pub rulePlaces-wordings : (at : ℕ) (rules : List Rule) → RulesStand book at rules → map (λ p. take 24 (drop (p + 3) book)) (rule_places at rules) ≡ map (λ rule. rule.wording) rules
+  pub rule_places_wordings : (at : ℕ) (rules : List Rule) → RulesStand book at rules → map (λ p. take 24 (drop (p + 3) book)) (rule_places at rules) ≡ map (λ rule. rule.wording) rules
   unfolding rule_places
-  rulePlaces-wordings at [] h = refl
-  rulePlaces-wordings at (rule ∷ rules) h =
-      rw (h.0.wording, rule-wording book at rule.number h.0.begins, rulePlaces-wordings _ rules h.1)
+  rule_places_wordings at [] h = refl
+  rule_places_wordings at (rule ∷ rules) h =
+      rw (h.0.wording, rule-wording book at rule.number h.0.begins, rule_places_wordings _ rules h.1)
 
-  pub rulePlaces-within : (at : ℕ) (rules : List Rule) → RulesStand book at rules → (k : ℕ) → k < length rules → get_or (rule_places at rules) k 0 + 27 ≤ length book
+  pub rule_places-within : (at : ℕ) (rules : List Rule) → RulesStand book at rules → (k : ℕ) → k < length rules → get_or (rule_places at rules) k 0 + 27 ≤ length book
   unfolding rule_places
-  rulePlaces-within at [] h k l = absurd (omega arith)
-  rulePlaces-within at (rule ∷ rules) h zero l = rule-within book at rule.number h.0.begins
-  rulePlaces-within at (rule ∷ rules) h (suc k) l = rulePlaces-within _ rules h.1 k (omega arith)
+  rule_places-within at [] h k l = absurd (omega arith)
+  rule_places-within at (rule ∷ rules) h zero l = rule-within book at rule.number h.0.begins
+  rule_places-within at (rule ∷ rules) h (suc k) l = rule_places-within _ rules h.1 k (omega arith)
 
   -- ---- a rule sought by its number
 
@@ -58,12 +58,12 @@ module _ (book : List ℕ) where
   sought-places at [] n h = refl
   sought-places at (rule ∷ rules) n h = rw (rule-number book at rule.number h.0.begins, sought-places _ rules n h.1)
 
-  pub wordingPlace-shows : (at : ℕ) (rules : List Rule) (n : ℕ) → RulesStand book at rules → Shows book (wording_place_in at rules n) (wording_in rules n)
+  pub wording_place_shows : (at : ℕ) (rules : List Rule) (n : ℕ) → RulesStand book at rules → Shows book (wording_place_in at rules n) (wording_in rules n)
   unfolding wording_place_in wording_in
-  wordingPlace-shows at [] n h = refl
-  wordingPlace-shows at (rule ∷ rules) n h =
+  wording_place_shows at [] n h = refl
+  wording_place_shows at (rule ∷ rules) n h =
       let here : at + 27 ≤ length book = rule-within book at rule.number h.0.begins in
-      shows_cond book (eqb rule.number n) _ _ _ _ (omega arith, sym (h.0.wording ∙ rule-wording book at rule.number h.0.begins)) (wordingPlace-shows _ rules n h.1)
+      shows_cond book (eqb rule.number n) _ _ _ _ (omega arith, sym (h.0.wording ∙ rule-wording book at rule.number h.0.begins)) (wording_place_shows _ rules n h.1)
 
   -- ---- conditions: their tests, which end where the next record is none
 
@@ -71,10 +71,10 @@ module _ (book : List ℕ) where
   unfolding tests_from tests_size
   tests-at zero at [] h l e = refl
   tests-at zero at (t ∷ tests) h l e = absurd (omega arith)
-  tests-at (suc n) at [] h l e = testsFrom-none book at (suc n) (rw (add-zero at) at e)
+  tests-at (suc n) at [] h l e = tests_from-none book at (suc n) (rw (add-zero at) at e)
   tests-at (suc n) at (t ∷ tests) h l e =
       let next : at + (test_size t + tests_size tests) ≡ at + test_size t + tests_size tests = omega arith in
-      testsFrom-more book at n t h.0 ∙ ap (λ (more : List Test). t ∷ more) (tests-at n (at + test_size t) tests h.1 (omega arith) (rw next at e))
+      tests_from-more book at n t h.0 ∙ ap (λ (more : List Test). t ∷ more) (tests-at n (at + test_size t) tests h.1 (omega arith) (rw next at e))
 
   conditions-next : (at : ℕ) (conditions : List (List Test)) → ConditionsStand book at conditions → NoTest (record_at book (at + conditions_size conditions)) → NoTest (record_at book at)
   unfolding conditions_size
@@ -114,5 +114,5 @@ module _ (book : List ℕ) where
         rules-at (at + (27 + size)) rules h.1 k.1 after,
       )
 
-  pub conditionPlaces-tests : (rules : List Rule) → BookStands book rules → Kept rules → map (tests_at book) (condition_places 0 rules) ≡ conditions_of rules
-  conditionPlaces-tests rules s k = rules-at 0 rules s.stand k.each (rw (zero-add, s.end) tt)
+  pub condition_places-tests : (rules : List Rule) → BookStands book rules → Kept rules → map (tests_at book) (condition_places 0 rules) ≡ conditions_of rules
+  condition_places-tests rules s k = rules-at 0 rules s.stand k.each (rw (zero-add, s.end) tt)

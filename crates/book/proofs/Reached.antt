@@ -24,8 +24,8 @@ use Rattle.book.specs.Judgement.{judged, wording_of, after, Within}
 use Rattle.book.specs.Rules.{Rule, last_or, on_last, no_rule, with_condition, with_test, standing, tests_size, conditions_size, rules_size, places_of, padded, rule_places, condition_places, condition_count}
 use Rattle.book.specs.Read.{BookRead, accepted, refused, unless, grown, bytes_of, ended, turn, walk, read_book, answer_of, rules_of, placed_of}
 use Rattle.book.specs.Steps.{over_if, end_of, step_by, step_of, rule_noted, condition_noted, noted, no_places, closed, closed_by}
-use Rattle.book.proofs.Growth.{bare, standing-bare, standing-condition, standing-test, places-bare, places-condition, places-test}
-use Rattle.book.proofs.Laid.{tests_sums, conditions_sums, rules_sums, total-append, total-onLast}
+use Rattle.book.proofs.Growth.{bare, standing-bare, standing_condition, standing_test, places-bare, places_condition, places_test}
+use Rattle.book.proofs.Laid.{tests_sums, conditions_sums, rules_sums, total-append, total-on_last}
 use Rattle.book.proofs.Judged.{standing-some, RuleTaken, ConditionTaken, TestTaken, rule-taken, condition_taken, test_taken}
 use Rattle.book.proofs.RecordLaws.{record_within}
 
@@ -105,9 +105,9 @@ module _ (book : List ℕ) (at : ℕ) (s : Standing) (p : Places) (reached : Rea
   unfolding turn grown bytes_of size_of
   walk-rule n e j = walk_turn reached.most book at reached.rules (r.Rule n) e ∙ unless-none _ at _ j
 
-  note-rule : (n : ℕ) → noted p s (r.Rule n) at ≡ rule_noted (places_of reached.rules) (standing reached.rules) (rules_size reached.rules)
+  note_rule : (n : ℕ) → noted p s (r.Rule n) at ≡ rule_noted (places_of reached.rules) (standing reached.rules) (rules_size reached.rules)
   unfolding noted
-  note-rule n = rw (reached.stands, reached.places, reached.sized)
+  note_rule n = rw (reached.stands, reached.places, reached.sized)
 
   kept_rule : (n : ℕ) → RuleTaken s n (drop (at + 1) book) → Bounded (after s (r.Rule n))
   unfolding after
@@ -125,30 +125,30 @@ module _ (book : List ℕ) (at : ℕ) (s : Standing) (p : Places) (reached : Rea
       advance (r.Rule n) 27 e refl (rules ++ bare n w ∷ []) (walk-rule n e (same-judged (r.Rule n) j))
       (after s (r.Rule n)) (noted p s (r.Rule n) at)
       (ap (λ (z : Standing). after z (r.Rule n)) reached.stands ∙ sym (standing-bare rules n w))
-      (note-rule n ∙ places-bare rules n w few)
+      (note_rule n ∙ places-bare rules n w few)
       (total-append rules_sums rules (bare n w))
       (kept_rule n t)
 
   -- ---- a condition more
 
-  walk-condition : record_at book at ≡ r.Condition → judged (standing reached.rules) r.Condition (drop (at + 1) book) ≡ 0
+  walk_condition : record_at book at ≡ r.Condition → judged (standing reached.rules) r.Condition (drop (at + 1) book) ≡ 0
       → walk (suc reached.most) book at reached.rules ≡ walk reached.most book (at + 1) (on_last with_condition reached.rules)
   unfolding turn grown bytes_of size_of
-  walk-condition e j = walk_turn reached.most book at reached.rules r.Condition e ∙ unless-none _ at _ j
+  walk_condition e j = walk_turn reached.most book at reached.rules r.Condition e ∙ unless-none _ at _ j
 
-  note-condition : noted p s r.Condition at ≡ condition_noted (places_of reached.rules) (standing reached.rules) (rules_size reached.rules)
+  note_condition : noted p s r.Condition at ≡ condition_noted (places_of reached.rules) (standing reached.rules) (rules_size reached.rules)
   unfolding noted
-  note-condition = rw (reached.stands, reached.places, reached.sized)
+  note_condition = rw (reached.stands, reached.places, reached.sized)
 
-  kept-condition : ConditionTaken s → Bounded (after s r.Condition)
+  kept_condition : ConditionTaken s → Bounded (after s r.Condition)
   unfolding after
-  kept-condition t =
+  kept_condition t =
       let k = reached.kept in
       record { rules = k.rules; conditions = omega (arith, t.room); tests = omega arith; total = omega (arith, k.last, t.room, t.under); last = omega (arith, k.last, t.under) }
 
-  condition-on : record_at book at ≡ r.Condition → judged s r.Condition (drop (at + 1) book) ≡ 0 → Onward r.Condition (at + 1)
+  condition_on : record_at book at ≡ r.Condition → judged s r.Condition (drop (at + 1) book) ≡ 0 → Onward r.Condition (at + 1)
   unfolding judged standing size_of with_condition conditions_size tests_size
-  condition-on e j =
+  condition_on e j =
       let t = condition_taken s j in
       let k = reached.kept in
       let rules = reached.rules in
@@ -157,19 +157,19 @@ module _ (book : List ℕ) (at : ℕ) (s : Standing) (p : Places) (reached : Rea
       let few : length rules ≤ 32 = omega (arith, k.rules, ap (λ (z : Standing). z.rules) es) in
       let room : length (last_or no_rule rules).conditions < 6 = omega (arith, t.room, ap (λ (z : Standing). z.conditions) es) in
       let all : condition_count rules < 192 = omega (arith, k.last, k.rules, t.room, t.under, ap (λ (z : Standing). z.total) es) in
-      advance r.Condition 1 e refl (on_last with_condition rules) (walk-condition e (same-judged r.Condition j))
+      advance r.Condition 1 e refl (on_last with_condition rules) (walk_condition e (same-judged r.Condition j))
       (after s r.Condition) (noted p s r.Condition at)
-      (ap (λ (z : Standing). after z r.Condition) es ∙ sym (standing-condition rules some))
-      (note-condition ∙ places-condition rules some few room all)
-      (total-onLast rules_sums with_condition 1 no_rule rules some (omega (arith, total-append conditions_sums (last_or no_rule rules).conditions [])))
-      (kept-condition t)
+      (ap (λ (z : Standing). after z r.Condition) es ∙ sym (standing_condition rules some))
+      (note_condition ∙ places_condition rules some few room all)
+      (total-on_last rules_sums with_condition 1 no_rule rules some (omega (arith, total-append conditions_sums (last_or no_rule rules).conditions [])))
+      (kept_condition t)
 
   -- ---- a test more
 
-  walk-test : (t : Test) → record_at book at ≡ r.Test t → judged (standing reached.rules) (r.Test t) (drop (at + 1) book) ≡ 0
+  walk_test : (t : Test) → record_at book at ≡ r.Test t → judged (standing reached.rules) (r.Test t) (drop (at + 1) book) ≡ 0
       → walk (suc reached.most) book at reached.rules ≡ walk reached.most book (at + test_size t) (on_last (with_test t) reached.rules)
   unfolding turn grown bytes_of size_of
-  walk-test t e j = walk_turn reached.most book at reached.rules (r.Test t) e ∙ unless-none _ at _ j
+  walk_test t e j = walk_turn reached.most book at reached.rules (r.Test t) e ∙ unless-none _ at _ j
 
   kept_test : (t : Test) → TestTaken s t → Bounded (after s (r.Test t))
   unfolding after
@@ -185,41 +185,41 @@ module _ (book : List ℕ) (at : ℕ) (s : Standing) (p : Places) (reached : Rea
       let es = reached.stands in
       let conditions = (last_or no_rule rules).conditions in
       let some : 1 ≤ length (last_or no_rule rules).conditions = omega (arith, u.under, ap (λ (z : Standing). z.conditions) es) in
-      advance (r.Test t) (test_size t) e refl (on_last (with_test t) rules) (walk-test t e (same-judged (r.Test t) j))
+      advance (r.Test t) (test_size t) e refl (on_last (with_test t) rules) (walk_test t e (same-judged (r.Test t) j))
       (after s (r.Test t)) p
-      (ap (λ (z : Standing). after z (r.Test t)) es ∙ sym (standing-test rules t some))
-      (reached.places ∙ places-test rules t)
-      (total-onLast rules_sums (with_test t) (test_size t) no_rule rules (standing-some rules some)
-      (omega (arith, total-onLast conditions_sums (λ tests. tests ++ t ∷ []) (test_size t) [] conditions some (omega (arith, total-append tests_sums (last_or [] conditions) t)))))
+      (ap (λ (z : Standing). after z (r.Test t)) es ∙ sym (standing_test rules t some))
+      (reached.places ∙ places_test rules t)
+      (total-on_last rules_sums (with_test t) (test_size t) no_rule rules (standing-some rules some)
+      (omega (arith, total-on_last conditions_sums (λ tests. tests ++ t ∷ []) (test_size t) [] conditions some (omega (arith, total-append tests_sums (last_or [] conditions) t)))))
       (kept_test t u)
 
-  on-by : (rec : Record) → record_at book at ≡ rec → (rec' : Record) (next : ℕ) → step_by book at s rec ≡ On rec' next → Onward rec' next
+  on_by : (rec : Record) → record_at book at ≡ rec → (rec' : Record) (next : ℕ) → step_by book at s rec ≡ On rec' next → Onward rec' next
   unfolding step_by size_of bytes_of
-  on-by (r.Rule n) e rec' next o =
+  on_by (r.Rule n) e rec' next o =
       let q = over_if-on _ at _ rec' next o in
       let er : r.Rule n ≡ rec' = let g = q.1 in cc in
       let en : at + 27 ≡ next = let g = q.1 in cc in
       rw (← er, ← en) (rule-on n e q.0)
-  on-by r.Condition e rec' next o =
+  on_by r.Condition e rec' next o =
       let q = over_if-on _ at _ rec' next o in
       let er : r.Condition ≡ rec' = let g = q.1 in cc in
       let en : at + 1 ≡ next = let g = q.1 in cc in
-      rw (← er, ← en) (condition-on e q.0)
-  on-by (r.Test t) e rec' next o =
+      rw (← er, ← en) (condition_on e q.0)
+  on_by (r.Test t) e rec' next o =
       let q = over_if-on _ at _ rec' next o in
       let er : r.Test t ≡ rec' = let g = q.1 in cc in
       let en : at + test_size t ≡ next = let g = q.1 in cc in
       rw (← er, ← en) (test_on t e q.0)
-  on-by r.End e rec' next o =
+  on_by r.End e rec' next o =
       let q = over_if-on _ at _ rec' next o in
       let z : ◌≡◌ {A = ℕ} 0 1 = let g = q.1 in cc in
       absurd (omega arith)
-  on-by (r.Refused n q) e rec' next o = let z : ◌≡◌ {A = ℕ} 0 1 = cc in absurd (omega arith)
+  on_by (r.Refused n q) e rec' next o = let z : ◌≡◌ {A = ℕ} 0 1 = cc in absurd (omega arith)
 
   -- where the step goes on, the reading has come as far as its record's end
   pub reached-on : (rec : Record) (next : ℕ) → step_of book at s ≡ On rec next → Onward rec next
   unfolding step_of
-  reached-on rec next o = on-by (record_at book at) refl rec next o
+  reached-on rec next o = on_by (record_at book at) refl rec next o
 
   -- ---- where the step is over, so is the reading
 

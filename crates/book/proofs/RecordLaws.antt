@@ -42,16 +42,16 @@ unfolding record_at
 record_at-past book at h = simp (le-leb (length book) at h)
 
 module _ (book : List ℕ) (at : ℕ) (h : at < length book) where
-  pub recordAt-kind : (kind : ℕ) → get_or book at 0 ≡ kind → by_kind kind (drop (at + 1) book) at ≡ record_at book at
+  pub record_at_kind : (kind : ℕ) → get_or book at 0 ≡ kind → by_kind kind (drop (at + 1) book) at ≡ record_at book at
   unfolding record_at
-  recordAt-kind kind e = simp (lt-leb (length book) at h, e)
+  record_at_kind kind e = simp (lt-leb (length book) at h, e)
 
   -- what a body reader says of the part that it was lent
-  pub recordAt-body : (f : List ℕ → ℕ → Record) (kind : ℕ) (r : Record) → ((b : List ℕ) → by_kind kind b at ≡ f b at) → get_or book at 0 ≡ kind
+  pub record_at_body : (f : List ℕ → ℕ → Record) (kind : ℕ) (r : Record) → ((b : List ℕ) → by_kind kind b at ≡ f b at) → get_or book at 0 ≡ kind
       → r ≡ f (take (length book - (at + 1)) (drop (at + 1) book)) at → r ≡ record_at book at
-  recordAt-body f kind r same e er =
+  record_at_body f kind r same e er =
       er ∙ ap (λ (b : List ℕ). f b at) (take_all (length book - (at + 1)) (drop (at + 1) book) (omega (arith, length-drop (at + 1) book)))
-      ∙ sym (same (drop (at + 1) book)) ∙ recordAt-kind kind e
+      ∙ sym (same (drop (at + 1) book)) ∙ record_at_kind kind e
 
 pub by_kind-unknown : (kind : ℕ) (b : List ℕ) (at : ℕ) → (kind ≡ 1 → ⊥) → (kind ≡ 2 → ⊥) → (kind ≡ 3 → ⊥) → (kind ≡ 4 → ⊥) → (kind ≡ 5 → ⊥) → (kind ≡ 9 → ⊥)
     → Refused 3 at ≡ by_kind kind b at

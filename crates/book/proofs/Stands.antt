@@ -13,7 +13,7 @@ use Rattle.book.specs.Rules.{Rule, no_rule, last_or, on_last, with_condition, wi
 use Rattle.book.specs.Read.{accepted, grown, walk, read_book}
 use Rattle.book.specs.Stands.{ConditionStands, RuleStands, RulesStand, BookStands}
 use Rattle.book.proofs.Judged.{standing-some, condition_taken, test_taken}
-use Rattle.book.proofs.Laid.{tests_sums, conditions_sums, rules_sums, total-append, total-onLast, laid-append, laid-onLast}
+use Rattle.book.proofs.Laid.{tests_sums, conditions_sums, rules_sums, total-append, total-on_last, laid-append, laid-on_last}
 use Rattle.book.proofs.Walk.{Carried, Ended, walk_ends, read-ends}
 
 -- ---- one record more
@@ -32,31 +32,31 @@ module _ (book : List ℕ) where
         omega (arith, total-append rules_sums rules new),
       )
 
-  condition-more : (at : ℕ) (rules : List Rule) → record_at book at ≡ r.Condition → 0 < length rules → Before at rules → Before (at + 1) (on_last with_condition rules)
+  condition_more : (at : ℕ) (rules : List Rule) → record_at book at ≡ r.Condition → 0 < length rules → Before at rules → Before (at + 1) (on_last with_condition rules)
   unfolding with_condition tests_size
-  condition-more at rules e some h =
+  condition_more at rules e some h =
       let last : List (List Test) = (last_or no_rule rules).conditions in (
-        laid-onLast rules_sums (RuleStands book) with_condition no_rule 0 rules h.0 (λ p ends s.
+        laid-on_last rules_sums (RuleStands book) with_condition no_rule 0 rules h.0 (λ p ends s.
             let here : p + 27 + conditions_size last ≡ at = omega (arith, ends) in
             record {
               begins = s.begins;
               wording = s.wording;
               conditions = laid-append conditions_sums (ConditionStands book) (p + 27) last [] s.conditions (rw here (record { begins = e; tests = tt }));
             }),
-        omega (arith, total-onLast rules_sums with_condition 1 no_rule rules some (omega (arith, total-append conditions_sums last []))),
+        omega (arith, total-on_last rules_sums with_condition 1 no_rule rules some (omega (arith, total-append conditions_sums last []))),
       )
 
-  test-more : (at : ℕ) (t : Test) (rules : List Rule) → record_at book at ≡ r.Test t → 0 < length (last_or no_rule rules).conditions → Before at rules → Before (at + test_size t) (on_last (with_test t) rules)
+  test_more : (at : ℕ) (t : Test) (rules : List Rule) → record_at book at ≡ r.Test t → 0 < length (last_or no_rule rules).conditions → Before at rules → Before (at + test_size t) (on_last (with_test t) rules)
   unfolding with_test standing
-  test-more at t rules e some h =
+  test_more at t rules e some h =
       let conditions : List (List Test) = (last_or no_rule rules).conditions in
       let last : List Test = last_or [] conditions in
       let put : List Test → List Test = λ tests. tests ++ t ∷ [] in (
-        laid-onLast rules_sums (RuleStands book) (with_test t) no_rule 0 rules h.0 (λ p ends s.
+        laid-on_last rules_sums (RuleStands book) (with_test t) no_rule 0 rules h.0 (λ p ends s.
             record {
               begins = s.begins;
               wording = s.wording;
-              conditions = laid-onLast conditions_sums (ConditionStands book) put [] (p + 27) conditions s.conditions (λ q stops c.
+              conditions = laid-on_last conditions_sums (ConditionStands book) put [] (p + 27) conditions s.conditions (λ q stops c.
                   let here : q + 1 + tests_size last ≡ at = omega (arith, ends, stops) in
                   record {
                     begins = c.begins;
@@ -65,18 +65,18 @@ module _ (book : List ℕ) where
             }),
         omega (
           arith,
-          total-onLast rules_sums (with_test t) (test_size t) no_rule rules (standing-some rules some)
-              (omega (arith, total-onLast conditions_sums put (test_size t) [] conditions some (omega (arith, total-append tests_sums last t)))),
+          total-on_last rules_sums (with_test t) (test_size t) no_rule rules (standing-some rules some)
+              (omega (arith, total-on_last conditions_sums put (test_size t) [] conditions some (omega (arith, total-append tests_sums last t)))),
         ),
       )
 
-  pub stands-carried : Carried book Before
+  pub stands_carried : Carried book Before
   unfolding standing
-  stands-carried =
+  stands_carried =
       record {
         rule = λ at number rules e j. rule-more at number rules e;
-        condition = λ at rules e j. condition-more at rules e (condition_taken (standing rules) j).under;
-        test = λ at t rules e j. test-more at t rules e (test_taken (standing rules) t j).under;
+        condition = λ at rules e j. condition_more at rules e (condition_taken (standing rules) j).under;
+        test = λ at t rules e j. test_more at t rules e (test_taken (standing rules) t j).under;
       }
 
   -- ---- all records
@@ -87,10 +87,10 @@ module _ (book : List ℕ) where
       record { stand = w.holds.0; end = rw here w.end; last = rw here w.last }
 
   pub walk-stands : (most at : ℕ) (rules final : List Rule) → walk most book at rules ≡ accepted final → RulesStand book 0 rules → rules_size rules ≡ at → BookStands book final
-  walk-stands most at rules final e h s = ended-stands final (walk_ends book Before stands-carried final most at rules e (h, s))
+  walk-stands most at rules final e h s = ended-stands final (walk_ends book Before stands_carried final most at rules e (h, s))
 
   pub read-stands : (rules : List Rule) → read_book book ≡ accepted rules → BookStands book rules × (length book ≤ 8192)
   unfolding rules_size
   read-stands rules e =
-      let w = read-ends book Before stands-carried rules e (tt, refl) in
+      let w = read-ends book Before stands_carried rules e (tt, refl) in
       (ended-stands rules w.1, w.0)

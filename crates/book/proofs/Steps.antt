@@ -35,13 +35,13 @@ no_refusal (Refused n p) h = absurd (miss (0 ∷ 1 ∷ 2 ∷ 3 ∷ []) 4 tt h)
 -- ---- a reading that is over
 
 module _ (p : Places) (answer : BookAnswer) (step : Step) (s : step ≡ Over answer) where
-  pub close-accepted : (rules conditions : ℕ) → answer ≡ a.Accepted rules conditions → ◌≡◌ {A = Placed} (record { answer = answer; places = p }) (closed step p)
+  pub close_accepted : (rules conditions : ℕ) → answer ≡ a.Accepted rules conditions → ◌≡◌ {A = Placed} (record { answer = answer; places = p }) (closed step p)
   unfolding closed closed_by
-  close-accepted rules conditions h = rw (s, h)
+  close_accepted rules conditions h = rw (s, h)
 
-  pub close-refused : (q : Places) → q ≡ no_places → (number place : ℕ) → answer ≡ a.Refused number place → ◌≡◌ {A = Placed} (record { answer = answer; places = q }) (closed step p)
+  pub close_refused : (q : Places) → q ≡ no_places → (number place : ℕ) → answer ≡ a.Refused number place → ◌≡◌ {A = Placed} (record { answer = answer; places = q }) (closed step p)
   unfolding closed closed_by
-  close-refused q e number place h = rw (s, h, e)
+  close_refused q e number place h = rw (s, h, e)
 
 pub close_on : (p q : Places) → q ≡ no_places → (step : Step) (r : Record) (next : ℕ) → step ≡ On r next → ◌≡◌ {A = Placed} (record { answer = a.Refused 0 0; places = q }) (closed step p)
 unfolding closed
@@ -50,49 +50,49 @@ close_on p q e step r next s = rw (s, e)
 -- ---- one record, as the code goes through it
 
 module _ (book : List ℕ) (at : ℕ) (s : Standing) where
-  refused-by : (r : Record) → size_of r ≡ Unknown → Over (refusal_of r) ≡ step_by book at s r
+  refused_by : (r : Record) → size_of r ≡ Unknown → Over (refusal_of r) ≡ step_by book at s r
   unfolding size_of refusal_of step_by
-  refused-by (Rule n) u = let z : ◌≡◌ {A = ℕ} 0 1 = cc in absurd (omega arith)
-  refused-by Condition u = let z : ◌≡◌ {A = ℕ} 0 1 = cc in absurd (omega arith)
-  refused-by (Test t) u = let z : ◌≡◌ {A = ℕ} 0 1 = cc in absurd (omega arith)
-  refused-by End u = let z : ◌≡◌ {A = ℕ} 0 1 = cc in absurd (omega arith)
-  refused-by (Refused n p) u = refl
+  refused_by (Rule n) u = let z : ◌≡◌ {A = ℕ} 0 1 = cc in absurd (omega arith)
+  refused_by Condition u = let z : ◌≡◌ {A = ℕ} 0 1 = cc in absurd (omega arith)
+  refused_by (Test t) u = let z : ◌≡◌ {A = ℕ} 0 1 = cc in absurd (omega arith)
+  refused_by End u = let z : ◌≡◌ {A = ℕ} 0 1 = cc in absurd (omega arith)
+  refused_by (Refused n p) u = refl
 
-  judged-by : (r : Record) (n : ℕ) → Bytes n ≡ size_of r → (judged s r (drop (at + 1) book) ≡ 0 → ⊥) → Over (a.Refused (judged s r (drop (at + 1) book)) at) ≡ step_by book at s r
+  judged_by : (r : Record) (n : ℕ) → Bytes n ≡ size_of r → (judged s r (drop (at + 1) book) ≡ 0 → ⊥) → Over (a.Refused (judged s r (drop (at + 1) book)) at) ≡ step_by book at s r
   unfolding step_by over_if
-  judged-by (Rule m) n e h = simp (ne_eqb _ 0 h)
-  judged-by Condition n e h = simp (ne_eqb _ 0 h)
-  judged-by (Test t) n e h = simp (ne_eqb _ 0 h)
-  judged-by End n e h = simp (ne_eqb _ 0 h)
-  judged-by (Refused m p) n e h = absurd (size_of-refused m p n e)
+  judged_by (Rule m) n e h = simp (ne_eqb _ 0 h)
+  judged_by Condition n e h = simp (ne_eqb _ 0 h)
+  judged_by (Test t) n e h = simp (ne_eqb _ 0 h)
+  judged_by End n e h = simp (ne_eqb _ 0 h)
+  judged_by (Refused m p) n e h = absurd (size_of-refused m p n e)
 
-  on-by : (r : Record) (n : ℕ) → Bytes n ≡ size_of r → judged s r (drop (at + 1) book) ≡ 0 → OneOf (0 ∷ 1 ∷ 2 ∷ 4 ∷ []) (tag_of the_type r) → On r (at + n) ≡ step_by book at s r
+  on_by : (r : Record) (n : ℕ) → Bytes n ≡ size_of r → judged s r (drop (at + 1) book) ≡ 0 → OneOf (0 ∷ 1 ∷ 2 ∷ 4 ∷ []) (tag_of the_type r) → On r (at + n) ≡ step_by book at s r
   unfolding step_by over_if bytes_of
-  on-by (Rule m) n e h o = rw (h, ← e)
-  on-by Condition n e h o = rw (h, ← e)
-  on-by (Test t) n e h o = rw (h, ← e)
-  on-by End n e h o = absurd (miss (0 ∷ 1 ∷ 2 ∷ 4 ∷ []) 3 tt o)
-  on-by (Refused m p) n e h o = absurd (size_of-refused m p n e)
+  on_by (Rule m) n e h o = rw (h, ← e)
+  on_by Condition n e h o = rw (h, ← e)
+  on_by (Test t) n e h o = rw (h, ← e)
+  on_by End n e h o = absurd (miss (0 ∷ 1 ∷ 2 ∷ 4 ∷ []) 3 tt o)
+  on_by (Refused m p) n e h o = absurd (size_of-refused m p n e)
 
 module _ (book : List ℕ) (at : ℕ) (s : Standing) (rec : Record) (e : rec ≡ record_at book at) where
-  by-record : step_by book at s rec ≡ step_of book at s
+  by_record : step_by book at s rec ≡ step_of book at s
   unfolding step_of
-  by-record = ap (step_by book at s) e
+  by_record = ap (step_by book at s) e
 
   pub step-refused : size_of rec ≡ Unknown → Over (refusal_of rec) ≡ step_of book at s
-  step-refused u = refused-by book at s rec u ∙ by-record
+  step-refused u = refused_by book at s rec u ∙ by_record
 
   -- the number with which the record is judged, on the part of the book after its kind
   module _ (n : ℕ) (size : Bytes n ≡ size_of rec) (number : ℕ) (j : number ≡ judged s rec (drop (at + 1) book)) where
     pub step-judged : (number ≡ 0 → ⊥) → Over (a.Refused number at) ≡ step_of book at s
-    step-judged h = rw j (judged-by book at s rec n size (λ (z : judged s rec (drop (at + 1) book) ≡ 0). h (j ∙ z))) ∙ by-record
+    step-judged h = rw j (judged_by book at s rec n size (λ (z : judged s rec (drop (at + 1) book) ≡ 0). h (j ∙ z))) ∙ by_record
 
     pub step_end : (answer : BookAnswer) → number ≡ 0 → rec ≡ End → answer ≡ end_of book (at + 1) s → Over answer ≡ step_of book at s
     unfolding step_by over_if
     step_end answer z r f =
         let k : judged s End (drop (at + 1) book) ≡ 0 = ap (λ (q : Record). judged s q (drop (at + 1) book)) (sym r) ∙ sym j ∙ z in
         let m : Over (end_of book (at + 1) s) ≡ step_by book at s End = rw k in
-        ap Over f ∙ m ∙ ap (step_by book at s) (sym r) ∙ by-record
+        ap Over f ∙ m ∙ ap (step_by book at s) (sym r) ∙ by_record
 
     pub step-on : number ≡ 0 → OneOf (0 ∷ 1 ∷ 2 ∷ 4 ∷ []) (tag_of the_type rec) → On rec (at + n) ≡ step_of book at s
-    step-on z h = on-by book at s rec n size (sym j ∙ z) h ∙ by-record
+    step-on z h = on_by book at s rec n size (sym j ∙ z) h ∙ by_record

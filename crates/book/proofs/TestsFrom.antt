@@ -45,25 +45,25 @@ if_test-none r.End on h = refl
 if_test-none (r.Refused n p) on h = refl
 
 module _ (book : List ℕ) (place : ℕ) where
-  pub testsFrom-none : (n : ℕ) → NoTest (record_at book place) → tests_from n book place ≡ []
+  pub tests_from-none : (n : ℕ) → NoTest (record_at book place) → tests_from n book place ≡ []
   unfolding tests_from
-  testsFrom-none zero h = refl
-  testsFrom-none (suc n) h = if_test-none (record_at book place) _ h
+  tests_from-none zero h = refl
+  tests_from-none (suc n) h = if_test-none (record_at book place) _ h
 
-  pub testsFrom-more : (n : ℕ) (t : Test) → record_at book place ≡ r.Test t → tests_from (suc n) book place ≡ t ∷ tests_from n book (place + test_size t)
+  pub tests_from-more : (n : ℕ) (t : Test) → record_at book place ≡ r.Test t → tests_from (suc n) book place ≡ t ∷ tests_from n book (place + test_size t)
   unfolding tests_from if_test
-  testsFrom-more n t e = rw e
+  tests_from-more n t e = rw e
 
   -- the same, n of eight being read
-  pub testsFrom-next : (n : ℕ) (t : Test) (size : ℕ) → n < 8 → record_at book place ≡ r.Test t → size ≡ test_size t
+  pub tests_from-next : (n : ℕ) (t : Test) (size : ℕ) → n < 8 → record_at book place ≡ r.Test t → size ≡ test_size t
       → tests_from (8 - n) book place ≡ t ∷ tests_from (8 - (n + 1)) book (place + size)
-  testsFrom-next n t size h e s =
+  tests_from-next n t size h e s =
       let left : 8 - n ≡ suc (8 - (n + 1)) = omega arith in
-      rw (left, s) (testsFrom-more (8 - (n + 1)) t e)
+      rw (left, s) (tests_from-more (8 - (n + 1)) t e)
 
-  pub test-within : (t : Test) → record_at book place ≡ r.Test t → place + test_size t ≤ length book
+  pub test_within : (t : Test) → record_at book place ≡ r.Test t → place + test_size t ≤ length book
   unfolding size_of
-  test-within t e = (record_within book place (test_size t) (sym (ap size_of e))).1.1
+  test_within t e = (record_within book place (test_size t) (sym (ap size_of e))).1.1
 
 -- ---- the first n of them read, the next at `place`
 
@@ -79,11 +79,11 @@ module _ (book : List ℕ) (at n place : ℕ) (done : List Test) (read : TestsRe
   read_more t size h e s =
       record {
         count = omega (arith, read.count, length-append done (t ∷ []));
-        rest = read.rest ∙ rw (testsFrom-next book place n t size h e s) (sym (append_snoc done t _));
+        rest = read.rest ∙ rw (tests_from-next book place n t size h e s) (sym (append_snoc done t _));
       }
 
   pub read-over : NoTest (record_at book place) → tests_at book at ≡ done
-  read-over h = read.rest ∙ rw (testsFrom-none book place (8 - n) h) (append-nil done)
+  read-over h = read.rest ∙ rw (tests_from-none book place (8 - n) h) (append-nil done)
 
   pub read-full : n ≡ 8 → tests_at book at ≡ done
   unfolding tests_from

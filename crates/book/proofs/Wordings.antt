@@ -15,7 +15,7 @@ use Rattle.book.specs.Read.{BookRead, accepted, refused, read_book, answer_of, r
 use Rattle.book.specs.Wording.{rule_wording, wording_place, sought}
 use Rattle.book.proofs.Limits.{read_kept}
 use Rattle.book.proofs.Growth.{length-rule_places}
-use Rattle.book.proofs.Offsets.{Shows, rulePlaces-within, sought-places, wordingPlace-shows}
+use Rattle.book.proofs.Offsets.{Shows, rule_places-within, sought-places, wording_place_shows}
 use Rattle.book.proofs.Stands.{read-stands}
 
 module _ (book : List ℕ) (placed : Placed) (found : placed ≡ placed_of (read_book book)) where
@@ -39,9 +39,9 @@ module _ (book : List ℕ) (placed : Placed) (found : placed ≡ placed_of (read
     abbrev rules : List Rule
     rules = rules-read.0
 
-    places-are : placed.places.rules ≡ rule_places 0 rules ++ replicate (32 - length (rule_places 0 rules)) 0
+    places_are : placed.places.rules ≡ rule_places 0 rules ++ replicate (32 - length (rule_places 0 rules)) 0
     unfolding placed_of rules_of places_of padded
-    places-are = ap (λ (p : Placed). p.places.rules) found ∙ rw rules-read.1.0
+    places_are = ap (λ (p : Placed). p.places.rules) found ∙ rw rules-read.1.0
 
     pub accepted-within : (count ≤ 32) × ((k : ℕ) → k < count → get_or placed.places.rules k 0 + 27 ≤ length book)
     accepted-within =
@@ -50,7 +50,7 @@ module _ (book : List ℕ) (placed : Placed) (found : placed ≡ placed_of (read
           omega (arith, (read_kept book rules read).most),
           λ k l.
               let among : k < length (rule_places 0 rules) = omega (arith, l, length-rule_places 0 rules) in
-              rw (places-are, get_or-append (rule_places 0 rules) _ 0 k among) (rulePlaces-within book 0 rules (read-stands book rules read).0.stand k (omega (arith, l))),
+              rw (places_are, get_or-append (rule_places 0 rules) _ 0 k among) (rule_places-within book 0 rules (read-stands book rules read).0.stand k (omega (arith, l))),
         )
 
     pub accepted-place : (n : ℕ) → sought book (take count placed.places.rules) n ≡ wording_place (read_book book) n
@@ -58,7 +58,7 @@ module _ (book : List ℕ) (placed : Placed) (found : placed ≡ placed_of (read
     accepted-place n =
         let read = rules-read.1.0 in
         let many : count ≡ length rules = rules-read.1.1 in
-        rw (places-are, take_at (rule_places 0 rules) _ count (length-rule_places 0 rules ∙ sym many), read) (sought-places book 0 rules n (read-stands book rules read).0.stand)
+        rw (places_are, take_at (rule_places 0 rules) _ count (length-rule_places 0 rules ∙ sym many), read) (sought-places book 0 rules n (read-stands book rules read).0.stand)
 
 -- ---- the part of the book that a place shows
 
@@ -67,7 +67,7 @@ module _ (book : List ℕ) (n : ℕ) where
   unfolding wording_place rule_wording
   shown = by (read_book book) refl where
     by : (b : BookRead) → read_book book ≡ b → Shows book (wording_place b n) (rule_wording b n)
-    by (accepted rules) r = wordingPlace-shows book 0 rules n (read-stands book rules r).0.stand
+    by (accepted rules) r = wording_place_shows book 0 rules n (read-stands book rules r).0.stand
     by (refused k p) r = refl
 
   pub wording-at : (place : WordingPlace) (p : ℕ) → place ≡ wording_place (read_book book) n → place ≡ At p → (p + 24 ≤ length book) × (take 24 (drop p book) ≡ rule_wording (read_book book) n)

@@ -12,7 +12,7 @@ use Rattle.numbers.specs.BigEndian.{uint}
 use Rattle.reading.specs.declared.Reading.{Reading}
 use Rattle.reading.specs.Reading.{is_less}
 use Rattle.matching.specs.Order.{Less, Sorted, nought, first, Rising, empty, single, step}
-use Rattle.matching.proofs.Laws.Orders.{rising-sorted}
+use Rattle.matching.proofs.Laws.Orders.{rising_sorted}
 use Rattle.matching.proofs.Laws.ReadingOrder.{is_less-order}
 use Rattle.room.specs.Parts.{twos}
 use Rattle.room.proofs.TwosRead.{length-twos, get_or-twos}
@@ -44,48 +44,48 @@ module _ (P : ℕ → Type 0) where
   mem_get_or (x ∷ l) zero h each = each x (Memᴰ.head refl)
   mem_get_or (x ∷ l) (suc k) h each = mem_get_or l k (omega arith) λ s m. each s (Memᴰ.tail m)
 
-  getD-mem : {s : ℕ} {l : List ℕ} → Memᴰ s l → ((k : ℕ) → k < length l → P (get_or l k 0)) → P s
-  getD-mem (Memᴰ.head e) each = rw e (each 0 (omega arith))
-  getD-mem (Memᴰ.tail m) each = getD-mem m λ k h. each (suc k) (omega arith)
+  get_or_mem : {s : ℕ} {l : List ℕ} → Memᴰ s l → ((k : ℕ) → k < length l → P (get_or l k 0)) → P s
+  get_or_mem (Memᴰ.head e) each = rw e (each 0 (omega arith))
+  get_or_mem (Memᴰ.tail m) each = get_or_mem m λ k h. each (suc k) (omega arith)
 
-  pub each-front : (n : ℕ) (l : List ℕ) → n ≤ length l → ((s : ℕ) → Memᴰ s (take n l) → P s) ↔ ((k : ℕ) → k < n → P (get_or l k 0))
-  each-front n l h =
+  pub each_front : (n : ℕ) (l : List ℕ) → n ≤ length l → ((s : ℕ) → Memᴰ s (take n l) → P s) ↔ ((k : ℕ) → k < n → P (get_or l k 0))
+  each_front n l h =
       let long = length-take-le n l h in (
         λ each k m. rw (get_or-take n l k 0 m) at (mem_get_or (take n l) k (omega arith) each),
-        λ each s m. getD-mem m λ k j. let q : k < n = omega arith in rw (get_or-take n l k 0 q) (each k q),
+        λ each s m. get_or_mem m λ k j. let q : k < n = omega arith in rw (get_or-take n l k 0 q) (each k q),
       )
 
 -- ---- ascending: each comes before the next
 
 module _ {A : Type 0} {before : A → A → Type 0} (d : A) where
-  next-rising : (l : List A) → ((k : ℕ) → suc k < length l → before (get_or l k d) (get_or l (suc k) d)) → Rising before l
-  next-rising [] next = empty
-  next-rising (a ∷ []) next = single
-  next-rising (a ∷ (b ∷ l)) next = step (next 0 (omega arith)) (next-rising (b ∷ l) λ k h. next (suc k) (omega arith))
+  next_rising : (l : List A) → ((k : ℕ) → suc k < length l → before (get_or l k d) (get_or l (suc k) d)) → Rising before l
+  next_rising [] next = empty
+  next_rising (a ∷ []) next = single
+  next_rising (a ∷ (b ∷ l)) next = step (next 0 (omega arith)) (next_rising (b ∷ l) λ k h. next (suc k) (omega arith))
 
-  sorted-next : {l : List A} → Sorted before l → (k : ℕ) → suc k < length l → before (get_or l k d) (get_or l (suc k) d)
-  sorted-next nought k h = absurd (omega arith)
-  sorted-next (first {l = []} f p) k h = absurd (omega arith)
-  sorted-next (first {l = b ∷ l} f p) zero h = f b (Memᴰ.head refl)
-  sorted-next (first {l = b ∷ l} f p) (suc k) h = sorted-next p k (omega arith)
+  sorted_next : {l : List A} → Sorted before l → (k : ℕ) → suc k < length l → before (get_or l k d) (get_or l (suc k) d)
+  sorted_next nought k h = absurd (omega arith)
+  sorted_next (first {l = []} f p) k h = absurd (omega arith)
+  sorted_next (first {l = b ∷ l} f p) zero h = f b (Memᴰ.head refl)
+  sorted_next (first {l = b ∷ l} f p) (suc k) h = sorted_next p k (omega arith)
 
 module _ (read : ℕ → Reading) (n : ℕ) (l : List ℕ) (h : n ≤ length l) where
-  long-front : length (map read (take n l)) ≡ n
-  long-front = length-map (take n l) read ∙ length-take-le n l h
+  long_front : length (map read (take n l)) ≡ n
+  long_front = length-map (take n l) read ∙ length-take-le n l h
 
-  read-front : (k : ℕ) → k < n → get_or (map read (take n l)) k (read 0) ≡ read (get_or l k 0)
-  read-front k m = get_or-map read (take n l) k 0 ∙ ap read (get_or-take n l k 0 m)
+  read_front : (k : ℕ) → k < n → get_or (map read (take n l)) k (read 0) ≡ read (get_or l k 0)
+  read_front k m = get_or-map read (take n l) k 0 ∙ ap read (get_or-take n l k 0 m)
 
-  pub ascending-front : Sorted (Less is_less) (map read (take n l)) ↔ ((k : ℕ) → k < n → 1 ≤ k → is_less (read (get_or l (k - 1) 0)) (read (get_or l k 0)) ≡ true)
-  ascending-front = (
+  pub ascending_front : Sorted (Less is_less) (map read (take n l)) ↔ ((k : ℕ) → k < n → 1 ≤ k → is_less (read (get_or l (k - 1) 0)) (read (get_or l k 0)) ≡ true)
+  ascending_front = (
     before,
-    λ each. rising-sorted is_less-order.transitive (next-rising (read 0) (map read (take n l)) λ k m.
-        let q : suc k < n = omega (arith, long-front) in
+    λ each. rising_sorted is_less-order.transitive (next_rising (read 0) (map read (take n l)) λ k m.
+        let q : suc k < n = omega (arith, long_front) in
         let own : k < n = omega arith in
-        rw (read-front k own, read-front (suc k) q) (rw sub-one at (each (suc k) q (omega arith)))),
+        rw (read_front k own, read_front (suc k) q) (rw sub-one at (each (suc k) q (omega arith)))),
   ) where
     before : Sorted (Less is_less) (map read (take n l)) → (k : ℕ) → k < n → 1 ≤ k → is_less (read (get_or l (k - 1) 0)) (read (get_or l k 0)) ≡ true
     before up zero m some = absurd (omega arith)
     before up (suc k) m some =
         let own : k < n = omega arith in
-        rw (sub-one, ← read-front k own, ← read-front (suc k) m) (sorted-next (read 0) up k (omega (arith, long-front)))
+        rw (sub-one, ← read_front k own, ← read_front (suc k) m) (sorted_next (read 0) up k (omega (arith, long_front)))

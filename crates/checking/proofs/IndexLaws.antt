@@ -18,7 +18,7 @@ use Rattle.room.specs.Layout.{head_number}
 use Rattle.room.proofs.BrokenLaws.{head_number-at}
 use Rattle.room.proofs.Large.{large-part}
 use Rattle.room.proofs.TwosRead.{length-twos}
-use Rattle.checking.specs.Checked.{Indexed, bookIn}
+use Rattle.checking.specs.Checked.{Indexed, book_in}
 use Rattle.checking.proofs.Numbers.{Bounds}
 
 -- a list filled up with zeros has the list at its front
@@ -47,8 +47,8 @@ same-rules rules others e = cc
 
 -- the tables are long enough for n rules and c conditions
 pub record Asked (room : List ℕ) (p : Places) (n c : ℕ) : Type 0 where
-  pub rule-places : (n * 2 ≤ length (part room 8592 64)) × ((n ≤ length p.rules) × (n ≤ 192))
-  pub rule-conditions : (n ≤ length (part room 8656 32)) × (n ≤ length p.counts)
+  pub rule_places_are : (n * 2 ≤ length (part room 8592 64)) × ((n ≤ length p.rules) × (n ≤ 192))
+  pub rule_conditions_are : (n ≤ length (part room 8656 32)) × (n ≤ length p.counts)
   pub condition_places_lem : (c * 2 ≤ length (part room 8208 384)) × ((c ≤ length p.conditions) × (c ≤ 192))
 
 module _ (room : List ℕ) where
@@ -56,81 +56,81 @@ module _ (room : List ℕ) where
   pub record Placing (p : Places) (n c : ℕ) : Type 0 where
     pub rules : n ≡ uint 2 room 10
     pub conditions : c ≡ uint 2 room 12
-    pub rule-places : twos n (part room 8592 64) ≡ take n p.rules
-    pub rule-conditions : take n (part room 8656 32) ≡ take n p.counts
+    pub rule_places_are : twos n (part room 8592 64) ≡ take n p.rules
+    pub rule_conditions_are : take n (part room 8656 32) ≡ take n p.counts
     pub condition_places_lem : twos c (part room 8208 384) ≡ take c p.conditions
 
-  module _ (rules : List Rule) (reads : read_book (bookIn room) ≡ accepted rules) (n c : ℕ) (number : n ≡ length rules) (total : c ≡ condition_count rules)
+  module _ (rules : List Rule) (reads : read_book (book_in room) ≡ accepted rules) (n c : ℕ) (number : n ≡ length rules) (total : c ≡ condition_count rules)
       (p : Places) (placed : p ≡ places_of rules) where
-    rule-front : take n p.rules ≡ rule_places 0 rules
+    rule_front : take n p.rules ≡ rule_places 0 rules
     unfolding places_of
-    rule-front = ap (λ (q : Places). take n q.rules) placed ∙ take-padded 32 n (rule_places 0 rules) (number ∙ sym (length-rule_places 0 rules))
+    rule_front = ap (λ (q : Places). take n q.rules) placed ∙ take-padded 32 n (rule_places 0 rules) (number ∙ sym (length-rule_places 0 rules))
 
-    count-front : take n p.counts ≡ counts rules
+    count_front : take n p.counts ≡ counts rules
     unfolding places_of
-    count-front = ap (λ (q : Places). take n q.counts) placed ∙ take-padded 32 n (counts rules) (number ∙ sym (length-counts rules))
+    count_front = ap (λ (q : Places). take n q.counts) placed ∙ take-padded 32 n (counts rules) (number ∙ sym (length-counts rules))
 
-    condition-front : take c p.conditions ≡ condition_places 0 rules
+    condition_front : take c p.conditions ≡ condition_places 0 rules
     unfolding places_of
-    condition-front = ap (λ (q : Places). take c q.conditions) placed ∙ take-padded 192 c (condition_places 0 rules) (total ∙ sym (length-condition_places 0 rules))
+    condition_front = ap (λ (q : Places). take c q.conditions) placed ∙ take-padded 192 c (condition_places 0 rules) (total ∙ sym (length-condition_places 0 rules))
 
-    placing-indexed : Placing p n c → Indexed room
-    placing-indexed t =
+    placing_indexed : Placing p n c → Indexed room
+    placing_indexed t =
         let five : head_number room 5 ≡ n = head_number-at room 5 (omega arith) ∙ sym t.rules in
         let six : head_number room 6 ≡ c = head_number-at room 6 (omega arith) ∙ sym t.conditions in
         record {
           rules = rules;
           reads = reads;
-          rule-places = ap (λ (m : ℕ). twos m (part room 8592 64)) five ∙ t.rule-places ∙ rule-front;
-          rule-conditions = ap (λ (m : ℕ). take m (part room 8656 32)) five ∙ t.rule-conditions ∙ count-front;
-          condition_places_lem = ap (λ (m : ℕ). twos m (part room 8208 384)) six ∙ t.condition_places_lem ∙ condition-front;
+          rule_places_are = ap (λ (m : ℕ). twos m (part room 8592 64)) five ∙ t.rule_places_are ∙ rule_front;
+          rule_conditions_are = ap (λ (m : ℕ). take m (part room 8656 32)) five ∙ t.rule_conditions_are ∙ count_front;
+          condition_places_lem = ap (λ (m : ℕ). twos m (part room 8208 384)) six ∙ t.condition_places_lem ∙ condition_front;
         }
 
-    indexed-placing : Indexed room → Placing p n c
-    indexed-placing i =
+    indexed_placing : Indexed room → Placing p n c
+    indexed_placing i =
         let same : i.rules ≡ rules = same-rules i.rules rules (sym i.reads ∙ reads) in
-        let places : twos (head_number room 5) (part room 8592 64) ≡ rule_places 0 rules = i.rule-places ∙ ap (rule_places 0) same in
+        let places : twos (head_number room 5) (part room 8592 64) ≡ rule_places 0 rules = i.rule_places_are ∙ ap (rule_places 0) same in
         let firsts : twos (head_number room 6) (part room 8208 384) ≡ condition_places 0 rules = i.condition_places_lem ∙ ap (condition_places 0) same in
         let five : n ≡ head_number room 5 = number ∙ sym (length-rule_places 0 rules) ∙ sym (ap length places) ∙ length-twos (head_number room 5) (part room 8592 64) in
         let six : c ≡ head_number room 6 = total ∙ sym (length-condition_places 0 rules) ∙ sym (ap length firsts) ∙ length-twos (head_number room 6) (part room 8208 384) in
         record {
           rules = five ∙ head_number-at room 5 (omega arith);
           conditions = six ∙ head_number-at room 6 (omega arith);
-          rule-places = ap (λ (m : ℕ). twos m (part room 8592 64)) five ∙ places ∙ sym rule-front;
-          rule-conditions = ap (λ (m : ℕ). take m (part room 8656 32)) five ∙ i.rule-conditions ∙ ap counts same ∙ sym count-front;
-          condition_places_lem = ap (λ (m : ℕ). twos m (part room 8208 384)) six ∙ firsts ∙ sym condition-front;
+          rule_places_are = ap (λ (m : ℕ). twos m (part room 8592 64)) five ∙ places ∙ sym rule_front;
+          rule_conditions_are = ap (λ (m : ℕ). take m (part room 8656 32)) five ∙ i.rule_conditions_are ∙ ap counts same ∙ sym count_front;
+          condition_places_lem = ap (λ (m : ℕ). twos m (part room 8208 384)) six ∙ firsts ∙ sym condition_front;
         }
 
-  module _ (p : Placed) (found : p ≡ placed_of (read_book (bookIn room))) where
-    answered : p.answer ≡ answer_of (read_book (bookIn room))
+  module _ (p : Placed) (found : p ≡ placed_of (read_book (book_in room))) where
+    answered : p.answer ≡ answer_of (read_book (book_in room))
     unfolding placed_of
     answered = ap (λ (q : Placed). q.answer) found
 
-    pub refused-index : (number place : ℕ) → p.answer ≡ Refused number place → Indexed room → ⊥
-    refused-index number place h i = refused-read (read_book (bookIn room)) number place (sym answered ∙ h) i.rules i.reads
+    pub refused_index : (number place : ℕ) → p.answer ≡ Refused number place → Indexed room → ⊥
+    refused_index number place h i = refused-read (read_book (book_in room)) number place (sym answered ∙ h) i.rules i.reads
 
-    placed : (rules : List Rule) → read_book (bookIn room) ≡ accepted rules → p.places ≡ places_of rules
+    placed : (rules : List Rule) → read_book (book_in room) ≡ accepted rules → p.places ≡ places_of rules
     unfolding placed_of rules_of
     placed rules e = ap (λ (q : Placed). q.places) found ∙ ap (λ (b : BookRead). places_of (rules_of b)) e
 
-    pub accepted-index : (n c : ℕ) → p.answer ≡ Accepted n c → Indexed room ↔ Placing p.places n c
-    accepted-index n c h =
-        let a = accepted-read (read_book (bookIn room)) n c (sym answered ∙ h) in
+    pub accepted_index : (n c : ℕ) → p.answer ≡ Accepted n c → Indexed room ↔ Placing p.places n c
+    accepted_index n c h =
+        let a = accepted-read (read_book (book_in room)) n c (sym answered ∙ h) in
         let q = placed a.0 a.1 in
-        (indexed-placing a.0 a.1 n c a.2 a.3 p.places q, placing-indexed a.0 a.1 n c a.2 a.3 p.places q)
+        (indexed_placing a.0 a.1 n c a.2 a.3 p.places q, placing_indexed a.0 a.1 n c a.2 a.3 p.places q)
 
     -- what is asked for the tables to be compared
-    pub index-asked : (n c : ℕ) → p.answer ≡ Accepted n c → Bounds room → n ≡ uint 2 room 10 → c ≡ uint 2 room 12 → Asked room p.places n c
+    pub index_asked : (n c : ℕ) → p.answer ≡ Accepted n c → Bounds room → n ≡ uint 2 room 10 → c ≡ uint 2 room 12 → Asked room p.places n c
     unfolding places_of
-    index-asked n c h b ru co =
-        let a = accepted-read (read_book (bookIn room)) n c (sym answered ∙ h) in
+    index_asked n c h b ru co =
+        let a = accepted-read (read_book (book_in room)) n c (sym answered ∙ h) in
         let q = placed a.0 a.1 in
         let long : (at w : ℕ) → at + w ≤ 18288 → length (part room at w) ≡ w = λ at w h. large-part room at w h b.large in
         let places : n ≤ length p.places.rules = rw q (long-padded 32 n (rule_places 0 a.0) (a.2 ∙ sym (length-rule_places 0 a.0))) in
         let numbers : n ≤ length p.places.counts = rw q (long-padded 32 n (counts a.0) (a.2 ∙ sym (length-counts a.0))) in
         let firsts : c ≤ length p.places.conditions = rw q (long-padded 192 c (condition_places 0 a.0) (a.3 ∙ sym (length-condition_places 0 a.0))) in
         record {
-          rule-places = (omega (arith, long 8592 64 (omega arith), b.rules), (places, omega (arith, b.rules)));
-          rule-conditions = (omega (arith, long 8656 32 (omega arith), b.rules), numbers);
+          rule_places_are = (omega (arith, long 8592 64 (omega arith), b.rules), (places, omega (arith, b.rules)));
+          rule_conditions_are = (omega (arith, long 8656 32 (omega arith), b.rules), numbers);
           condition_places_lem = (omega (arith, long 8208 384 (omega arith), b.conditions), (firsts, omega (arith, b.conditions)));
         }

@@ -33,8 +33,8 @@ module _ (order : List ℕ) (i : ℕ) (h : i < length order) where
 
   module _ (seen : List Bool) (n : Noted seen (take i order)) (small : get_or order i 0 < 256) where
     -- a slot noted before stands twice
-    pub noted-twice : get_or seen (get_or order i 0) false ≡ true → Once order → ⊥
-    noted-twice e once =
+    pub noted_twice : get_or seen (get_or order i 0) false ≡ true → Once order → ⊥
+    noted_twice e once =
         let s = get_or order i 0 in
         let before : 0 < times s (take i order) = ltb-true _ _ (sym (n.marks s small) ∙ e) in
         let now : times s (take (i + 1) order) ≡ times s (take i order) + 1 = times-next s ∙ ap (λ (b : Bool). times s (take i order) + cond b 1 0) (eq-eqb s s refl) in

@@ -10,10 +10,10 @@ use Rattle.numbers.specs.BigEndian.{uint}
 use Rattle.room.specs.Parts.{part}
 use Rattle.room.specs.Layout.{head_number}
 use Rattle.room.specs.Broken.{sum, broken}
-use Rattle.room.proofs.BrokenLaws.{head_number-at, not-broken-whole}
+use Rattle.room.proofs.BrokenLaws.{head_number-at, not_broken-whole}
 use Rattle.room.proofs.Large.{large-part}
-use Rattle.row.proofs.Sums.{sum-take_le}
-use Rattle.checking.specs.Checked.{bookIn, countsIn}
+use Rattle.row.proofs.Sums.{sum_take_le}
+use Rattle.checking.specs.Checked.{book_in, counts_in}
 
 pub record Bounds (room : List ℕ) : Type 0 where
   pub large : 18288 ≤ length room
@@ -21,21 +21,21 @@ pub record Bounds (room : List ℕ) : Type 0 where
   pub book : uint 2 room 8 ≤ 8192
   pub rules : uint 2 room 10 ≤ 32
   pub conditions : uint 2 room 12 ≤ 192
-  pub total : sum (countsIn room) ≡ uint 2 room 12
+  pub total : sum (counts_in room) ≡ uint 2 room 12
 
 pub bounds : (room : List ℕ) → broken room ≡ false → Bounds room
 bounds room h =
-    let w = not-broken-whole room h in
+    let w = not_broken-whole room h in
     record {
       large = omega (arith, w.large);
-      readings = omega (arith, w.E-high, w.readings, head_number-at room 2 (omega arith));
+      readings = omega (arith, w.E_high, w.readings, head_number-at room 2 (omega arith));
       book = omega (arith, w.book, head_number-at room 4 (omega arith));
       rules = omega (arith, w.rules, head_number-at room 5 (omega arith));
       conditions = omega (arith, w.conditions, head_number-at room 6 (omega arith));
       total = w.total ∙ head_number-at room 6 (omega arith);
     }
 
-pub book-read : (room : List ℕ) → Bounds room → (end : ℕ) → end ≡ 16 + uint 2 room 8 → take (end - 16) (drop 16 room) ≡ bookIn room
+pub book-read : (room : List ℕ) → Bounds room → (end : ℕ) → end ≡ 16 + uint 2 room 8 → take (end - 16) (drop 16 room) ≡ book_in room
 book-read room b end e =
     let n = head_number-at room 4 (omega arith) in
     let long : end - 16 ≡ head_number room 4 = omega arith in
@@ -50,11 +50,11 @@ pub record Numbered (room : List ℕ) (n end c : ℕ) : Type 0 where
 
 module _ (room : List ℕ) (n end conditions : ℕ) (a : Numbered room n end conditions) where
   -- the conditions are those of the rules
-  pub rules-few : head_number room 5 ≤ 32
-  rules-few = omega (arith, a.bounded.rules, head_number-at room 5 (omega arith))
+  pub rules_few : head_number room 5 ≤ 32
+  rules_few = omega (arith, a.bounded.rules, head_number-at room 5 (omega arith))
 
-  pub conditions-are : sum (countsIn room) ≡ conditions
-  conditions-are = a.bounded.total ∙ sym a.conditions
+  pub conditions_are : sum (counts_in room) ≡ conditions
+  conditions_are = a.bounded.total ∙ sym a.conditions
 
   -- what is asked for a row to be made, with a byte for each of 32 rules twice
   pub row-asked : (length (part room 8208 384) ≡ 384)
@@ -65,8 +65,8 @@ module _ (room : List ℕ) (n end conditions : ℕ) (a : Numbered room n end con
       let told : conditions ≤ sum (part room 8656 32) =
       omega (
         arith,
-        conditions-are,
-        sum-take_le (part room 8656 32) (head_number room 5) 32 rules-few,
+        conditions_are,
+        sum_take_le (part room 8656 32) (head_number room 5) 32 rules_few,
         ap sum (take-take 32 32 (drop 8656 room) (omega arith)),
       ) in (
         large-part room 8208 384 (omega arith) b.large,

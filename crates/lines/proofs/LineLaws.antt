@@ -15,9 +15,9 @@ use denote.Shadow.{shadow}
 use denote.Struct.Declared.{row}
 use Rattle.numbers.specs.Digits.{digits}
 use Rattle.numbers.specs.Spliced.{spliced}
-use Rattle.numbers.proofs.Digits.{length-digits_32}
+use Rattle.numbers.proofs.Digits.{length_digits_32}
 use Rattle.matching.specs.Lists.{concat_map}
-use Rattle.matching.proofs.Laws.Lists.{concatMap-append, concatMap-one}
+use Rattle.matching.proofs.Laws.Lists.{concat_map-append, concat_map-one}
 use Rattle.reading.specs.declared.Reading.{Reading}
 use Rattle.reading.specs.contracts.Reading.{the_type}
 use Rattle.lines.specs.Line.{entry, entries, trimmed, ending, line_text, length_in, text_in}
@@ -30,7 +30,7 @@ length-entry r = simp length-append (omega arith)
 
 -- of three numbers of 32 bits, which have at most ten digits each
 pub length-entry-most : (r : Reading) → r.line < 2 ^ 32 → r.column < 2 ^ 32 → r.value < 2 ^ 32 → length (entry r) ≤ 33
-length-entry-most r l c v = omega (arith, length-entry r, length-digits_32 r.line l, length-digits_32 r.column c, length-digits_32 r.value v)
+length-entry-most r l c v = omega (arith, length-entry r, length_digits_32 r.line l, length_digits_32 r.column c, length_digits_32 r.value v)
 
 -- of the first n readings of an array: what its type says of each reading is that its numbers have 32 bits
 pub length-entries-most : (readings : List Reading) (us : List Val) → shadow (each Reading (row the_type).own readings us) → (n : ℕ) → length (entries (take n readings)) ≤ 33 * n
@@ -64,8 +64,8 @@ module _ (readings : List Reading) where
   pub entries-more : (i : ℕ) (d : Reading) → i < length readings → entries (take (i + 1) readings) ≡ entries (take i readings) ++ entry (get_or readings i d)
   entries-more i d h =
       ap entries (rw (add-one, take-suc readings i d))
-      ∙ concatMap-append entry (take i readings) (get_or readings i d ∷ [])
-      ∙ ap (λ (l : List ℕ). entries (take i readings) ++ l) (concatMap-one entry (get_or readings i d))
+      ∙ concat_map-append entry (take i readings) (get_or readings i d ∷ [])
+      ∙ ap (λ (l : List ℕ). entries (take i readings) ++ l) (concat_map-one entry (get_or readings i d))
 
   -- fewer readings take no more bytes
   entries-fewer : (i n : ℕ) → i ≤ n → length (entries (take i readings)) ≤ length (entries (take n readings))
@@ -73,7 +73,7 @@ module _ (readings : List Reading) where
       let front = take n readings in
       let e : entries front ≡ entries (take i readings) ++ entries (drop i front) =
       ap entries (sym (take-append-drop i front))
-      ∙ concatMap-append entry (take i front) (drop i front)
+      ∙ concat_map-append entry (take i front) (drop i front)
       ∙ ap (λ (l : List Reading). entries l ++ entries (drop i front)) (take-take i n readings h) in
       omega (arith, simp length-append at (ap length e))
 
@@ -106,19 +106,19 @@ module _ (wording : List ℕ) (n : ℕ) (some : 0 < n) (h : n ≤ length wording
   last : take n wording ≡ take (n - 1) wording ++ get_or wording (n - 1) 0 ∷ []
   last = let e : n ≡ suc (n - 1) = omega arith in ap (λ (k : ℕ). take k wording) e ∙ take-suc wording (n - 1) 0 (omega arith)
 
-  pub trimmed-shorter : get_or wording (n - 1) 0 ≡ 32 → trimmed (take n wording) ≡ trimmed (take (n - 1) wording)
-  trimmed-shorter e = ap trimmed (last ∙ ap (λ (x : ℕ). take (n - 1) wording ++ x ∷ []) e) ∙ trimmed_space (take (n - 1) wording)
+  pub trimmed_shorter : get_or wording (n - 1) 0 ≡ 32 → trimmed (take n wording) ≡ trimmed (take (n - 1) wording)
+  trimmed_shorter e = ap trimmed (last ∙ ap (λ (x : ℕ). take (n - 1) wording ++ x ∷ []) e) ∙ trimmed_space (take (n - 1) wording)
 
-  pub trimmed-itself : (get_or wording (n - 1) 0 ≡ 32 → ⊥) → trimmed (take n wording) ≡ take n wording
-  trimmed-itself e = ap trimmed last ∙ trimmed-end (take (n - 1) wording) (get_or wording (n - 1) 0) e ∙ sym last
+  pub trimmed_itself : (get_or wording (n - 1) 0 ≡ 32 → ⊥) → trimmed (take n wording) ≡ take n wording
+  trimmed_itself e = ap trimmed last ∙ trimmed-end (take (n - 1) wording) (get_or wording (n - 1) 0) e ∙ sym last
 
 -- ---- a text in a buffer
 
 module _ (buffer text : List ℕ) where
-  pub in-short : length buffer < length text → (length_in buffer text ≡ 0) × (text_in buffer text ≡ buffer)
+  pub in_short : length buffer < length text → (length_in buffer text ≡ 0) × (text_in buffer text ≡ buffer)
   unfolding length_in text_in
-  in-short h = let e = lt-ltb (length buffer) (length text) h in (simp e, simp e)
+  in_short h = let e = lt-ltb (length buffer) (length text) h in (simp e, simp e)
 
-  pub in-fits : length text ≤ length buffer → (length_in buffer text ≡ length text) × (text_in buffer text ≡ spliced buffer 0 text)
+  pub in_fits : length text ≤ length buffer → (length_in buffer text ≡ length text) × (text_in buffer text ≡ spliced buffer 0 text)
   unfolding length_in text_in
-  in-fits h = let e = le-ltb (length buffer) (length text) h in (simp e, simp e)
+  in_fits h = let e = le-ltb (length buffer) (length text) h in (simp e, simp e)

@@ -12,7 +12,7 @@ use Rattle.book.specs.Read.{BookRead, read_book, accepted, refused}
 use Rattle.room.specs.Layout.{head_number, formula}
 use Rattle.room.specs.Broken.{broken}
 use Rattle.room.specs.Held.{held}
-use Rattle.room.proofs.BrokenLaws.{head_number-at, not-broken-whole}
+use Rattle.room.proofs.BrokenLaws.{head_number-at, not_broken-whole}
 use Rattle.malletfrond.specs.declared.OpenAnswer.{OpenAnswer}
 use Rattle.malletfrond.specs.declared.OpenAnswer.TheVariants as o
 use Rattle.malletfrond.specs.declared.CountsAnswer.{CountsAnswer}
@@ -20,7 +20,7 @@ use Rattle.malletfrond.specs.declared.CountsAnswer.TheVariants as c
 use Rattle.malletfrond.specs.Answers.{limits_fit, opened_by, open_answer, counts_answer}
 use Rattle.room.specs.Held.{complete_of}
 use Rattle.malletfrond.specs.Promise.{Opens, Counts}
-use Rattle.sound.proofs.SoundLaws.{length-held-readings, sound-tokens, sound-complete}
+use Rattle.sound.proofs.SoundLaws.{length-held-readings, sound-tokens, sound_complete}
 
 -- ---- openings
 
@@ -71,7 +71,7 @@ module _ (room : List ℕ) where
       let k : head_number room 3 ≡ tokens = head_number-at room 3 (omega arith) ∙ sym t in
       record {
         answered = simp (h, n, k, m);
-        defined = λ s. rw (length-held-readings room (not-broken-whole room h) ∙ n, sym (sound-tokens room s) ∙ k, sym (sound-complete room s), m);
+        defined = λ s. rw (length-held-readings room (not_broken-whole room h) ∙ n, sym (sound-tokens room s) ∙ k, sym (sound_complete room s), m);
       }
 
 -- two results that counting allows, of one room, whatever it holds

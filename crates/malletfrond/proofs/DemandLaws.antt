@@ -18,7 +18,7 @@ use Rattle.matching.specs.Step.{State, Step, Answer, Settled, add, remove, stepp
 use Rattle.matching.specs.Step as v
 use Rattle.matching.proofs.Laws.Complaints.{mem_complaints, complaints-ascending}
 use Rattle.matching.proofs.Laws.Members.{mem_same}
-use Rattle.matching.proofs.Laws.Orders.{mem-inserted, without-inserted}
+use Rattle.matching.proofs.Laws.Orders.{mem_inserted, without-inserted}
 use Rattle.matching.proofs.Laws.ReadingOrder.{is_same-exact}
 use Rattle.matching.proofs.Laws.Steps.{opened_settled, readings_unique, added-accepted}
 use Rattle.room.specs.Held.{Held, held}
@@ -32,11 +32,11 @@ use Rattle.malletfrond.specs.Answers.{step_answer, complaint_line, complaint_at}
 use Rattle.malletfrond.specs.Promise.{Steps, Lines}
 use Rattle.malletfrond.specs.Runs.{Call, step, counts, line, check, Reply, Allowed, Event, Run, ended, then, reply_in, state_after, is_accepted, after, replayed}
 use Rattle.malletfrond.specs.Demand.{line_refused, is_refused, buffer_of, buffer_left, line_length, written, Untouched, Narrow, NarrowCall, Reached, Listed}
-use Rattle.malletfrond.proofs.RunLaws.{opens_state, allowed-reply, calls_of, states_after, events_in, run_sound, run_state, run_replies, run-book}
+use Rattle.malletfrond.proofs.RunLaws.{opens_state, allowed_reply, calls_of, states_after, events_in, run_sound, run_state, run_replies, run-book}
 use Rattle.malletfrond.proofs.RunLaws.{states_keep, states_settled, Present, replayed-present}
 use Rattle.malletfrond.proofs.LineLengths.{line-written, line-none, length-line}
 use Rattle.sound.proofs.SoundLaws.{sound-same}
-use Rattle.sound.proofs.SoundRoom.{sound-kept}
+use Rattle.sound.proofs.SoundRoom.{sound_kept}
 use Rattle.malletfrond.proofs.StepLaws.{accepted_not_refused}
 
 -- ---- what no call changes
@@ -109,66 +109,66 @@ module _ {book : List ℕ} {rules : List Rule} {E T : ℕ} {events : List Event}
   first-sound : Sound r.start
   first-sound = r.opens.sound refl
 
-  first-state : state_of r.start first-sound ≡ opened rules E T
-  first-state = opens_state r.lent book rules E T _ r.start r.opens refl r.reads first-sound
+  first_state : state_of r.start first-sound ≡ opened rules E T
+  first_state = opens_state r.lent book rules E T _ r.start r.opens refl r.reads first-sound
 
   pub reached-sound : Sound last
   reached-sound = run_sound r.run first-sound
 
-  ended-state : state_of last reached-sound ≡ states_after (opened rules E T) (calls_of events)
-  ended-state = run_state r.run first-sound reached-sound ∙ ap (λ (s : State). states_after s (calls_of events)) first-state
+  ended_state : state_of last reached-sound ≡ states_after (opened rules E T) (calls_of events)
+  ended_state = run_state r.run first-sound reached-sound ∙ ap (λ (s : State). states_after s (calls_of events)) first_state
 
   ended-readings : (held last).readings ≡ (states_after (opened rules E T) (calls_of events)).readings
-  ended-readings = ap (λ (s : State). s.readings) ended-state
+  ended-readings = ap (λ (s : State). s.readings) ended_state
 
   -- the book, the limits, and the readings that it holds
-  pub reached-state : state_of last reached-sound ≡ with_readings (opened rules E T) (held last).readings
-  reached-state = ended-state ∙ states_keep (opened rules E T) (calls_of events) ∙ ap (with_readings (opened rules E T)) (sym ended-readings)
+  pub reached_state : state_of last reached-sound ≡ with_readings (opened rules E T) (held last).readings
+  reached_state = ended_state ∙ states_keep (opened rules E T) (calls_of events) ∙ ap (with_readings (opened rules E T)) (sym ended-readings)
 
   pub reached-holds : held last ≡ held_of book rules E T (held last).readings
   unfolding held_of
   reached-holds =
       let own : (held last).book ≡ book = run-book r.run first-sound ∙ ap (λ (h : Held). h.book) (r.opens.holds rules refl r.reads) in
-      reached-sound.holds ∙ ap₂ (λ (b : List ℕ) (s : State). held_of b s.book s.E s.T s.readings) own reached-state
+      reached-sound.holds ∙ ap₂ (λ (b : List ℕ) (s : State). held_of b s.book s.E s.T s.readings) own reached_state
 
-  pub reached-kept : Kept rules
-  reached-kept = read_kept book rules r.reads
+  pub reached_kept : Kept rules
+  reached_kept = read_kept book rules r.reads
 
   pub reached-present : Present (with_readings (opened rules E T) (held last).readings) (replayed (λ x. false) events)
   reached-present x =
-      let told : events ≡ events_in (opened rules E T) (calls_of events) = run_replies r.run first-sound ∙ ap (λ (s : State). events_in s (calls_of events)) first-state in
+      let told : events ≡ events_in (opened rules E T) (calls_of events) = run_replies r.run first-sound ∙ ap (λ (s : State). events_in s (calls_of events)) first_state in
       let none : Present (opened rules E T) (λ x. false) = λ y. (λ m. absurd (Memᴰ.not-nil m), λ e. absurd (false≢true e)) in
-      rw (← told, ← ended-readings) at (replayed-present (opened rules E T) reached-kept (opened_settled rules E T) (λ x. false) none (calls_of events) x)
+      rw (← told, ← ended-readings) at (replayed-present (opened rules E T) reached_kept (opened_settled rules E T) (λ x. false) none (calls_of events) x)
 
   pub reached-within : (length (held last).readings ≤ E) × (book_count rules (held last).readings ≤ T)
   reached-within =
-      let h = subst Settled (sym ended-state ∙ reached-state) (states_settled (opened rules E T) (opened_settled rules E T) (calls_of events)) in
+      let h = subst Settled (sym ended_state ∙ reached_state) (states_settled (opened rules E T) (opened_settled rules E T) (calls_of events)) in
       (h.readings, h.tokens)
 
   -- every next reply is that of the state
-  pub reached-reply : (call : Call) (reply : Reply call) (room : List ℕ) → Allowed last call reply room → reply ≡ reply_in (with_readings (opened rules E T) (held last).readings) call
-  reached-reply call reply room p = allowed-reply last reached-sound call reply room p ∙ ap (λ (s : State). reply_in s call) reached-state
+  pub reached_reply : (call : Call) (reply : Reply call) (room : List ℕ) → Allowed last call reply room → reply ≡ reply_in (with_readings (opened rules E T) (held last).readings) call
+  reached_reply call reply room p = allowed_reply last reached-sound call reply room p ∙ ap (λ (s : State). reply_in s call) reached_state
 
   -- ---- what it lists
 
-  reached-narrow : (x : Reading) → Memᴰ x (held last).readings → Narrow x
-  reached-narrow x m = replayed_narrow (λ y. false) (λ y e. absurd (false≢true e)) events r.numbers x ((reached-present x).0 m)
+  reached_narrow : (x : Reading) → Memᴰ x (held last).readings → Narrow x
+  reached_narrow x m = replayed_narrow (λ y. false) (λ y e. absurd (false≢true e)) events r.numbers x ((reached-present x).0 m)
 
   reached-short : (k : ℕ) → k < length (complaints rules (held last).readings) → length (complaint_line (complaint_at (complaints rules (held last).readings) k)) ≤ 230
   reached-short k h =
       let list : List Matched = complaints rules (held last).readings in
-      length-line book rules (held last).readings r.reads r.bytes reached-narrow (complaint_at list k) (mem_at list k _ h)
+      length-line book rules (held last).readings r.reads r.bytes reached_narrow (complaint_at list k) (mem_at list k _ h)
 
-  pub reached-listed : Listed rules (held last).readings last
-  reached-listed =
+  pub reached_listed : Listed rules (held last).readings last
+  reached_listed =
       let list : List Matched = complaints rules (held last).readings in
       let state : State = with_readings (opened rules E T) (held last).readings in
       record {
         list = list;
         matches = λ d m. mem_complaints d (held last).readings rules m;
-        ascending = complaints-ascending rules reached-kept (held last).readings reached-sound.ascending;
-        asked = λ k buffer reply room long h p. reached-reply (line k buffer) reply room p ∙ line-written state list refl k buffer h (omega (arith, reached-short k h));
-        no_more = λ k buffer reply room h p. reached-reply (line k buffer) reply room p ∙ line-none state list refl k buffer h;
+        ascending = complaints-ascending rules reached_kept (held last).readings reached-sound.ascending;
+        asked = λ k buffer reply room long h p. reached_reply (line k buffer) reply room p ∙ line-written state list refl k buffer h (omega (arith, reached-short k h));
+        no_more = λ k buffer reply room h p. reached_reply (line k buffer) reply room p ∙ line-none state list refl k buffer h;
       }
 
 -- ---- two rooms that runs have led to
@@ -183,7 +183,7 @@ reached-same {rules = rules} {E = E} {T = T} {last = last} {last' = last'} r r' 
     let one = reached-present r x in
     let other = reached-present r' x in
     (λ m. other.1 (sym (same x) ∙ one.0 m), λ m. one.1 (same x ∙ other.0 m))) in
-    reached-state r ∙ ap (with_readings (opened rules E T)) readings ∙ sym (reached-state r')
+    reached_state r ∙ ap (with_readings (opened rules E T)) readings ∙ sym (reached_state r')
 
 -- and the same calls from there are answered the same
 pub runs_same : {room room' : List ℕ} (s : Sound room) (s' : Sound room') → state_of room s ≡ state_of room' s' → {later later' : List Event} {end end' : List ℕ} → Run room later end
@@ -202,7 +202,7 @@ stepped_again : (s : State) (w : Reading) (n t c : ℕ) → Kept s.book → (ste
 unfolding stepped removed
 stepped_again s w n t c k e =
     let g = added-accepted s w k n t c e in
-    let there : present (with_readings s (more s w)) w ≡ true = (mem_same is_same-exact w (more s w)).1 ((mem-inserted is_less w w s.readings).1 (inl refl)) in
+    let there : present (with_readings s (more s w)) w ≡ true = (mem_same is_same-exact w (more s w)).1 ((mem_inserted is_less w w s.readings).1 (inl refl)) in
     rw (g.only, there, without-inserted is_same-exact w is_less s.readings g.new)
 
 -- a reading that is added and removed again leaves a room that holds what it held before
@@ -214,5 +214,5 @@ room_again {last = last} r w n t c room p answer room' q =
     let run : Run last ((step (add w), a.Accepted n t c) ∷ ((step (remove w), answer) ∷ [])) room' = then p (then q ended) in
     let s' : Sound room' = run_sound run s in
     let state : state_of room' s' ≡ state_of last s =
-    run_state run s s' ∙ stepped_again (state_of last s) w n t c (sound-kept last s) (accepted-is (stepped (state_of last s) (add w)).answer n t c (p.answered s)) in
+    run_state run s s' ∙ stepped_again (state_of last s) w n t c (sound_kept last s) (accepted-is (stepped (state_of last s) (add w)).answer n t c (p.answered s)) in
     sound-same room' last s' s (run-book run s) (ap (λ (x : State). x.E) state) (ap (λ (x : State). x.T) state) (ap (λ (x : State). x.readings) state)

@@ -13,8 +13,8 @@ use Rattle.malletfrond.specs.declared.OpenAnswer.TheVariants as o
 use Rattle.malletfrond.specs.Promise.{Opens}
 use Rattle.malletfrond.specs.Runs.{Call, Reply, Allowed, Event, Run, replayed}
 use Rattle.malletfrond.specs.Demand.{Untouched, Reached, Exact, Listed}
-use Rattle.malletfrond.proofs.DemandLaws.{allowed_untouched, reached-sound, reached-holds, reached-present, reached-within, reached-reply}
-use Rattle.malletfrond.proofs.DemandLaws.{reached-listed, reached-same, runs_same}
+use Rattle.malletfrond.proofs.DemandLaws.{allowed_untouched, reached-sound, reached-holds, reached-present, reached-within, reached_reply}
+use Rattle.malletfrond.proofs.DemandLaws.{reached_listed, reached-same, runs_same}
 
 -- demand 1: a refusal changes no lent byte, and nothing past the formula, and nothing of a buffer behind the line, ever changes
 pub demand_1 : ((room book : List ℕ) (E T : ℕ) (answer : OpenAnswer) (room' : List ℕ) → Opens room book E T answer room'
@@ -32,7 +32,7 @@ demand_2 book rules E T events last r =
       within = reached-within r;
       sound = reached-sound r;
       holds = reached-holds r;
-      next = reached-reply r;
+      next = reached_reply r;
     }
 
 -- demand 3: complaints are listed each once, in order; and the same readings present, whatever steps led there, answer the same calls the same
@@ -42,6 +42,6 @@ pub demand_3 : (book : List ℕ) (rules : List Rule) (E T : ℕ)
     → ((r : Reading) → replayed (λ x. false) events r ≡ replayed (λ x. false) events' r)
     → (later later' : List Event) (end end' : List ℕ) → Run last later end → Run last' later' end' → map (λ (e : Event). e.0) later ≡ map (λ (e : Event). e.0) later' → later ≡ later')
 demand_3 book rules E T = (
-  λ events last r. reached-listed r,
+  λ events last r. reached_listed r,
   λ events events' last last' r r' same later later' end end' p q calls. runs_same (reached-sound r) (reached-sound r') (reached-same r r' same) p q calls,
 )

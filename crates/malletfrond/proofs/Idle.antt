@@ -47,26 +47,26 @@ abbrev pub two : Reading
 two = reading 1 1 2
 
 pub record Replies : Type 0 where
-  pub added-one : StepAnswer
-  pub counted-one : CountsAnswer
-  pub line-one : LineAnswer × List ℕ
-  pub added-two : StepAnswer
-  pub counted-two : CountsAnswer
-  pub line-two : LineAnswer × List ℕ
+  pub added_one : StepAnswer
+  pub counted_one : CountsAnswer
+  pub line_one : LineAnswer × List ℕ
+  pub added_two : StepAnswer
+  pub counted_two : CountsAnswer
+  pub line_two : LineAnswer × List ℕ
   pub no_line : LineAnswer × List ℕ
-  pub removed-one : StepAnswer
+  pub removed_one : StepAnswer
   pub counted_back : CountsAnswer
 
 abbrev pub program : List ℕ → Replies → List Event
 program buffer r =
-    (step (add one), r.added-one)
-    ∷ (counts, r.counted-one)
-    ∷ (line 0 buffer, r.line-one)
-    ∷ (step (add two), r.added-two)
-    ∷ (counts, r.counted-two)
-    ∷ (line 1 buffer, r.line-two)
+    (step (add one), r.added_one)
+    ∷ (counts, r.counted_one)
+    ∷ (line 0 buffer, r.line_one)
+    ∷ (step (add two), r.added_two)
+    ∷ (counts, r.counted_two)
+    ∷ (line 1 buffer, r.line_two)
     ∷ (line 4 buffer, r.no_line)
-    ∷ (step (remove one), r.removed-one)
+    ∷ (step (remove one), r.removed_one)
     ∷ (counts, r.counted_back)
     ∷ []
 
@@ -77,14 +77,14 @@ pair x y = matched_by rule_b (x ∷ y ∷ [])
 abbrev pub answered : List ℕ → Replies
 answered buffer =
     record {
-      added-one = a.Accepted 1 2 1;
-      counted-one = c.Counted 1 2 1;
-      line-one = (l.Written 24, spliced buffer 0 (complaint_line (pair one one)));
-      added-two = a.Accepted 2 6 3;
-      counted-two = c.Counted 2 6 4;
-      line-two = (l.Written 24, spliced buffer 0 (complaint_line (pair one two)));
+      added_one = a.Accepted 1 2 1;
+      counted_one = c.Counted 1 2 1;
+      line_one = (l.Written 24, spliced buffer 0 (complaint_line (pair one one)));
+      added_two = a.Accepted 2 6 3;
+      counted_two = c.Counted 2 6 4;
+      line_two = (l.Written 24, spliced buffer 0 (complaint_line (pair one two)));
       no_line = (l.Refused 16, buffer);
-      removed-one = a.Accepted 1 2 3;
+      removed_one = a.Accepted 1 2 3;
       counted_back = c.Counted 1 2 1;
     }
 
@@ -95,13 +95,13 @@ start = opened (rule_b ∷ []) 256 2048
 -- what the steps leave, what they and the counts answer, and which complaints there are
 record Computed : Type 0 where
   pub next_one : (stepped start (add one)).next ≡ with_readings start (one ∷ [])
-  pub next-two : (stepped (with_readings start (one ∷ [])) (add two)).next ≡ with_readings start (one ∷ two ∷ [])
+  pub next_two : (stepped (with_readings start (one ∷ [])) (add two)).next ≡ with_readings start (one ∷ two ∷ [])
   pub next_back : (stepped (with_readings start (one ∷ two ∷ [])) (remove one)).next ≡ with_readings start (two ∷ [])
-  pub added-one : reply_in start (step (add one)) ≡ a.Accepted 1 2 1
-  pub counted-one : reply_in (with_readings start (one ∷ [])) counts ≡ c.Counted 1 2 1
-  pub added-two : reply_in (with_readings start (one ∷ [])) (step (add two)) ≡ a.Accepted 2 6 3
-  pub counted-two : reply_in (with_readings start (one ∷ two ∷ [])) counts ≡ c.Counted 2 6 4
-  pub removed-one : reply_in (with_readings start (one ∷ two ∷ [])) (step (remove one)) ≡ a.Accepted 1 2 3
+  pub added_one : reply_in start (step (add one)) ≡ a.Accepted 1 2 1
+  pub counted_one : reply_in (with_readings start (one ∷ [])) counts ≡ c.Counted 1 2 1
+  pub added_two : reply_in (with_readings start (one ∷ [])) (step (add two)) ≡ a.Accepted 2 6 3
+  pub counted_two : reply_in (with_readings start (one ∷ two ∷ [])) counts ≡ c.Counted 2 6 4
+  pub removed_one : reply_in (with_readings start (one ∷ two ∷ [])) (step (remove one)) ≡ a.Accepted 1 2 3
   pub counted_back : reply_in (with_readings start (two ∷ [])) counts ≡ c.Counted 1 2 1
   pub listed_one : complaints (rule_b ∷ []) (one ∷ []) ≡ pair one one ∷ []
   pub listed_two : complaints (rule_b ∷ []) (one ∷ two ∷ []) ≡ pair one one ∷ pair one two ∷ pair two one ∷ pair two two ∷ []
@@ -112,13 +112,13 @@ unfolding reply_in step_answer stepped removed added complaints rule_complaints 
 computed =
     record {
       next_one = refl;
-      next-two = refl;
+      next_two = refl;
       next_back = refl;
-      added-one = refl;
-      counted-one = refl;
-      added-two = refl;
-      counted-two = refl;
-      removed-one = refl;
+      added_one = refl;
+      counted_one = refl;
+      added_two = refl;
+      counted_two = refl;
+      removed_one = refl;
       counted_back = refl;
       listed_one = refl;
       listed_two = refl;
@@ -135,11 +135,11 @@ unfolding spliced complaint_line line_text entry trimmed ending digits digits_to
 lines-apart buffer = (refl, refl)
 
 module _ (buffer : List ℕ) (long : 230 ≤ length buffer) where
-  line-one : reply_in (with_readings start (one ∷ [])) (line 0 buffer) ≡ (answered buffer).line-one
-  line-one = line-written _ _ computed.listed_one 0 buffer (omega arith) (omega (arith, lines_long.0)) ∙ rw lines_long.0
+  line_one : reply_in (with_readings start (one ∷ [])) (line 0 buffer) ≡ (answered buffer).line_one
+  line_one = line-written _ _ computed.listed_one 0 buffer (omega arith) (omega (arith, lines_long.0)) ∙ rw lines_long.0
 
-  line-two : reply_in (with_readings start (one ∷ two ∷ [])) (line 1 buffer) ≡ (answered buffer).line-two
-  line-two = line-written _ _ computed.listed_two 1 buffer (omega arith) (omega (arith, lines_long.1)) ∙ rw lines_long.1
+  line_two : reply_in (with_readings start (one ∷ two ∷ [])) (line 1 buffer) ≡ (answered buffer).line_two
+  line_two = line-written _ _ computed.listed_two 1 buffer (omega arith) (omega (arith, lines_long.1)) ∙ rw lines_long.1
 
   no_line : reply_in (with_readings start (one ∷ two ∷ [])) (line 4 buffer) ≡ (answered buffer).no_line
   no_line = line-none _ _ computed.listed_two 4 buffer (omega arith)
@@ -148,7 +148,7 @@ module _ (buffer : List ℕ) (long : 230 ≤ length buffer) where
   unfolding state_after
   told r =
       let k = computed in
-      rw (k.next_one, k.next-two, k.next_back, k.added-one, k.counted-one, k.added-two, k.counted-two, k.removed-one, k.counted_back, line-one, line-two, no_line)
+      rw (k.next_one, k.next_two, k.next_back, k.added_one, k.counted_one, k.added_two, k.counted_two, k.removed_one, k.counted_back, line_one, line_two, no_line)
 
 -- ---- the replies of a run
 
@@ -175,14 +175,14 @@ replies_of : List Event → Replies
 replies_of events =
     let at : ℕ → Event = λ k. get_or events k (check, true) in
     record {
-      added-one = step_reply (at 0);
-      counted-one = counts_reply (at 1);
-      line-one = line_reply (at 2);
-      added-two = step_reply (at 3);
-      counted-two = counts_reply (at 4);
-      line-two = line_reply (at 5);
+      added_one = step_reply (at 0);
+      counted_one = counts_reply (at 1);
+      line_one = line_reply (at 2);
+      added_two = step_reply (at 3);
+      counted_two = counts_reply (at 4);
+      line_two = line_reply (at 5);
       no_line = line_reply (at 6);
-      removed-one = step_reply (at 7);
+      removed_one = step_reply (at 7);
       counted_back = counts_reply (at 8);
     }
 
@@ -200,33 +200,33 @@ module _ (lent room : List ℕ) (opens : Opens lent book_b 256 2048 (o.Opened 0 
   replies = ap replies_of (run_replies run sound ∙ ap (λ (s : State). events_in s (calls_of (program buffer r))) state ∙ told buffer long r)
 
   -- one that refuses everything
-  pub refuses-everything : ¬ All (λ (e : Event). is_refused e.0 e.1 ≡ true) (program buffer r)
+  pub refuses_everything : ¬ All (λ (e : Event). is_refused e.0 e.1 ≡ true) (program buffer r)
   unfolding is_refused is_accepted
-  refuses-everything all = false≢true (rw replies at all.0)
+  refuses_everything all = false≢true (rw replies at all.0)
 
   -- one whose steps, counts or lines have a constant reply
-  pub constant-reply : ¬ (r.added-one ≡ r.added-two) × ¬ (r.counted-one ≡ r.counted-two) × ¬ (r.line-two.0 ≡ r.no_line.0)
-  constant-reply = rw replies (
+  pub constant_reply : ¬ (r.added_one ≡ r.added_two) × ¬ (r.counted_one ≡ r.counted_two) × ¬ (r.line_two.0 ≡ r.no_line.0)
+  constant_reply = rw replies (
     λ (e : a.Accepted 1 2 1 ≡ a.Accepted 2 6 3). let z : ◌≡◌ {A = ℕ} 1 2 = cc in omega arith,
     λ (e : c.Counted 1 2 1 ≡ c.Counted 2 6 4). let z : ◌≡◌ {A = ℕ} 1 2 = cc in omega arith,
     λ (e : l.Written 24 ≡ l.Refused 16). let z : ◌≡◌ {A = ℕ} 0 1 = cc in omega arith,
   )
 
   -- one that does no work: it leaves what it found, or counts nothing
-  pub does-no-work : ¬ (held last ≡ held room) × ¬ (r.counted-one ≡ c.Counted 0 0 0)
+  pub does_no_work : ¬ (held last ≡ held room) × ¬ (r.counted_one ≡ c.Counted 0 0 0)
   unfolding state_after
-  does-no-work = (
+  does_no_work = (
     λ same.
         let k = computed in
         let s' : Sound last = run_sound run sound in
-        let end : state_of last s' ≡ with_readings start (two ∷ []) = run_state run sound s' ∙ rw (state, k.next_one, k.next-two, k.next_back) in
+        let end : state_of last s' ≡ with_readings start (two ∷ []) = run_state run sound s' ∙ rw (state, k.next_one, k.next_two, k.next_back) in
         cons≢nil (sym (ap (λ (s : State). s.readings) end) ∙ ap (λ (h : Held). h.readings) same ∙ ap (λ (s : State). s.readings) state),
     rw replies (λ (e : c.Counted 1 2 1 ≡ c.Counted 0 0 0). let z : ◌≡◌ {A = ℕ} 0 1 = cc in omega arith),
   )
 
   -- one that matches at the first step and afterwards repeats it: the first line again, or the first answer at the last step
-  pub repeats-the-first : ¬ (r.line-two ≡ r.line-one) × ¬ (r.removed-one ≡ r.added-one)
-  repeats-the-first = rw replies (
+  pub repeats_the_first : ¬ (r.line_two ≡ r.line_one) × ¬ (r.removed_one ≡ r.added_one)
+  repeats_the_first = rw replies (
     λ e.
         let same = ap (λ (x : LineAnswer × List ℕ). get_or x.1 12 0) e in
         let z : ◌≡◌ {A = ℕ} 50 49 = sym (lines-apart buffer).1 ∙ same ∙ (lines-apart buffer).0 in
@@ -235,6 +235,6 @@ module _ (lent room : List ℕ) (opens : Opens lent book_b 256 2048 (o.Opened 0 
   )
 
   -- one that invents its token count
-  pub invents-a-token : ((readings tokens changed : ℕ) → r.added-two ≡ a.Accepted readings tokens changed → tokens ≡ 6)
-      × ((readings tokens complete : ℕ) → r.counted-two ≡ c.Counted readings tokens complete → tokens ≡ 6)
-  invents-a-token = rw replies (λ readings tokens changed e. cc, λ readings tokens complete e. cc)
+  pub invents_a_token : ((readings tokens changed : ℕ) → r.added_two ≡ a.Accepted readings tokens changed → tokens ≡ 6)
+      × ((readings tokens complete : ℕ) → r.counted_two ≡ c.Counted readings tokens complete → tokens ≡ 6)
+  invents_a_token = rw replies (λ readings tokens changed e. cc, λ readings tokens complete e. cc)

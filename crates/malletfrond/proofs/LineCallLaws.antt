@@ -17,9 +17,9 @@ use Rattle.reading.specs.declared.Reading.{Reading}
 use Rattle.matching.specs.Complaints.{Matched}
 use Rattle.room.specs.Broken.{broken}
 use Rattle.room.specs.Held.{Held, held, complete_of}
-use Rattle.room.specs.Layout.{parts, rulePlacesPart}
+use Rattle.room.specs.Layout.{parts, rule_places_part}
 use Rattle.room.specs.Parts.{part}
-use Rattle.room.proofs.BrokenLaws.{Whole, not-broken-whole}
+use Rattle.room.proofs.BrokenLaws.{Whole, not_broken-whole}
 use Rattle.room.proofs.Large.{large-part}
 use Rattle.step.proofs.Lending.{in_room}
 use Rattle.weave.proofs.Grown.{le_or_lt}
@@ -30,8 +30,8 @@ use Rattle.malletfrond.specs.declared.LineAnswer.TheVariants as l
 use Rattle.sound.specs.Sound.{Sound}
 use Rattle.malletfrond.specs.Answers.{complaint_line, complaint_at, line_answer, line_buffer}
 use Rattle.malletfrond.specs.Promise.{Lines}
-use Rattle.malletfrond.proofs.Finding.{complaintsIn, found-complaint, found_text}
-use Rattle.sound.proofs.SoundLaws.{sound-rules, sound-complete}
+use Rattle.malletfrond.proofs.Finding.{complaints_in, found_complaint, found_text}
+use Rattle.sound.proofs.SoundLaws.{sound-rules, sound_complete}
 
 -- a line written is not one refused
 written_not_refused : (n number : ℕ) → l.Written n ≡ l.Refused number → ⊥
@@ -55,7 +55,7 @@ module _ (room : List ℕ) (k : ℕ) (buffer : List ℕ) where
       }
 
   lines-refused : (number : ℕ) → broken room ≡ false → Memᴰ number (16 ∷ 15 ∷ [])
-      → ((s : Sound room) → (line_answer (complaintsIn room s) k buffer ≡ l.Refused number) × (line_buffer (complaintsIn room s) k buffer ≡ buffer))
+      → ((s : Sound room) → (line_answer (complaints_in room s) k buffer ≡ l.Refused number) × (line_buffer (complaints_in room s) k buffer ≡ buffer))
       → Lines room k buffer (l.Refused number) buffer
   lines-refused number whole one same =
       record {
@@ -73,20 +73,20 @@ module _ (room : List ℕ) (k : ℕ) (buffer : List ℕ) where
   pub lines_none : broken room ≡ false → complete_of room ≤ k → Lines room k buffer (l.Refused 16) buffer
   unfolding line_answer line_buffer
   lines_none whole h = lines-refused 16 whole (Memᴰ.head refl) (λ s.
-      let past = le-ltb k (length (complaintsIn room s)) (omega (arith, sound-complete room s)) in
+      let past = le-ltb k (length (complaints_in room s)) (omega (arith, sound_complete room s)) in
       (simp past, simp past))
 
   -- a room that counts a complaint k where none is found is not sound
-  pub lines-lost : {rule count : ℕ} {readings : List Reading} → broken room ≡ false → k < complete_of room → ComplaintAt room k false rule count readings
+  pub lines_lost : {rule count : ℕ} {readings : List Reading} → broken room ≡ false → k < complete_of room → ComplaintAt room k false rule count readings
       → Lines room k buffer (l.Refused 16) buffer
-  lines-lost {rule} {count} {readings} whole h c = lines-refused 16 whole (Memᴰ.head refl)
-      (λ s. absurd (false≢true (found-complaint room s k false rule count readings c (omega (arith, sound-complete room s))).0))
+  lines_lost {rule} {count} {readings} whole h c = lines-refused 16 whole (Memᴰ.head refl)
+      (λ s. absurd (false≢true (found_complaint room s k false rule count readings c (omega (arith, sound_complete room s))).0))
 
   -- nor is one where the record of the complaint's rule goes past the book's part
   pub lines-beyond : {rule count : ℕ} {readings : List Reading} → broken room ≡ false → ComplaintAt room k true rule count readings
-      → 8208 < 16 + uint 2 (rulePlacesPart (parts room)) (rule * 2) + 27 → Lines room k buffer (l.Refused 16) buffer
+      → 8208 < 16 + uint 2 (rule_places_part (parts room)) (rule * 2) + 27 → Lines room k buffer (l.Refused 16) buffer
   lines-beyond {rule} whole c h = lines-refused 16 whole (Memᴰ.head refl)
-      (λ s. absurd (let t = found_text room s rule (uint 2 (rulePlacesPart (parts room)) (rule * 2)) (c.rule_in refl) refl in omega arith))
+      (λ s. absurd (let t = found_text room s rule (uint 2 (rule_places_part (parts room)) (rule * 2)) (c.rule_in refl) refl in omega arith))
 
 -- ---- what is lent of a room that is not broken, to read the record of the complaint's rule
 
@@ -98,10 +98,10 @@ complaint_as is c = rw is at c
 -- there are 32 rules at most, and a place for each
 module _ {room : List ℕ} {k : ℕ} {rule count : ℕ} {readings : List Reading} (whole : broken room ≡ false) (c : ComplaintAt room k true rule count readings) where
   pub rule-low : rule < 32
-  rule-low = let w : Whole room = not-broken-whole room whole in omega (arith, c.rule_in refl)
+  rule-low = let w : Whole room = not_broken-whole room whole in omega (arith, c.rule_in refl)
 
-  pub rule-placed : rule * 2 + 2 ≤ length (part room 8592 64)
-  rule-placed = omega (arith, rule-low, large-part room 8592 64 (lit≤ tt) (in_room room whole (lit≤ tt)))
+  pub rule_placed : rule * 2 + 2 ≤ length (part room 8592 64)
+  rule_placed = omega (arith, rule-low, large-part room 8592 64 (lit≤ tt) (in_room room whole (lit≤ tt)))
 
 -- a record that ends in the book's part ends in the room, and so does its number
 pub record_lent : (room : List ℕ) (place : ℕ) → broken room ≡ false → 16 + place + 27 ≤ 8208 → (16 + place + 1 + 2 ≤ length room) × (16 + place + 27 ≤ length room)
@@ -143,18 +143,18 @@ Put room k buffer n buffer' = (n ≡ 0 → Lines room k buffer (l.Refused 15) bu
 
 -- complaint k as it is found, its rule's number and wording as they stand in the stored book, in a buffer that has place for the line or not
 module _ {room : List ℕ} {k : ℕ} {rule count : ℕ} {readings : List Reading} (whole : broken room ≡ false) (h : k < complete_of room) (c : ComplaintAt room k true rule count readings)
-    (place number : ℕ) (wording text : List ℕ) (placed : place ≡ uint 2 (rulePlacesPart (parts room)) (rule * 2)) (numbered : number ≡ uint 2 room (16 + place + 1))
+    (place number : ℕ) (wording text : List ℕ) (placed : place ≡ uint 2 (rule_places_part (parts room)) (rule * 2)) (numbered : number ≡ uint 2 room (16 + place + 1))
     (worded : wording ≡ take (16 + place + 27 - (16 + place + 3)) (drop (16 + place + 3) room)) (says : text ≡ line_text number (take count readings) wording) where
   -- of a sound room that is the line of the definition's complaint k
-  sound-says : (s : Sound room) → Says (complaintsIn room s) k text
+  sound_says : (s : Sound room) → Says (complaints_in room s) k text
   unfolding complaint_line
-  sound-says s =
-      let here : k < length (complaintsIn room s) = omega (arith, sound-complete room s) in
+  sound_says s =
+      let here : k < length (complaints_in room s) = omega (arith, sound_complete room s) in
       let there = found_text room s rule place (c.rule_in refl) placed in
       let wide : 16 + place + 27 - (16 + place + 3) ≡ 24 = omega arith in
       let bytes : wording ≡ take 24 (drop (16 + place + 3) room) = rw wide at worded in (
         here,
-        ap complaint_line (found-complaint room s k true rule count readings c here).1
+        ap complaint_line (found_complaint room s k true rule count readings c here).1
             ∙ ap₂ (λ (n : ℕ) (w : List ℕ). line_text n (take count readings) w) (sym (numbered ∙ there.1)) (sym (bytes ∙ there.2))
             ∙ sym says,
       )
@@ -162,10 +162,10 @@ module _ {room : List ℕ} {k : ℕ} {rule count : ℕ} {readings : List Reading
   pub lines-put : (buffer : List ℕ) (n : ℕ) (buffer' : List ℕ) → length text ≤ 230 → n ≡ length_in buffer text → buffer' ≡ text_in buffer text
       → Put room k buffer n buffer'
   unfolding length_in text_in
-  lines-put buffer n buffer' most count-is put = ⊎_elim
+  lines-put buffer n buffer' most count_is put = ⊎_elim
       (λ (fits : length text ≤ length buffer).
       let under = le-ltb (length buffer) (length text) fits in
-      let all : n ≡ length text = count-is ∙ simp under in
+      let all : n ≡ length text = count_is ∙ simp under in
       let written : buffer' ≡ spliced buffer 0 text = put ∙ simp under in
       let some : 1 ≤ length text = rw says (line_text-some number (take count readings) wording) in (
         λ z. absurd (omega arith),
@@ -173,8 +173,8 @@ module _ {room : List ℕ} {k : ℕ} {rule count : ℕ} {readings : List Reading
           refused_10 = λ t. absurd (false≢true (sym whole ∙ t));
           numbered = λ m f e. absurd (written_not_refused (length text) m e);
           untouched = λ m e. absurd (written_not_refused (length text) m e);
-          answered = λ s. sym (line-fits (complaintsIn room s) k buffer text (sound-says s) fits).0;
-          wrote = λ s. sym (line-fits (complaintsIn room s) k buffer text (sound-says s) fits).1;
+          answered = λ s. sym (line-fits (complaints_in room s) k buffer text (sound_says s) fits).0;
+          wrote = λ s. sym (line-fits (complaints_in room s) k buffer text (sound_says s) fits).1;
           most = λ m e. let is : length text ≡ m = cc in (omega arith, omega arith);
           after = λ m e. let is : length text ≡ m = cc in drop-spliced buffer 0 text (omega arith) m (omega arith);
           long = length-spliced buffer 0 text (omega arith);
@@ -182,10 +182,10 @@ module _ {room : List ℕ} {k : ℕ} {rule count : ℕ} {readings : List Reading
       ))
       (λ (short : length buffer < length text).
       let over = lt-ltb (length buffer) (length text) short in
-      let none : n ≡ 0 = count-is ∙ simp over in
+      let none : n ≡ 0 = count_is ∙ simp over in
       let kept : buffer' ≡ buffer = put ∙ simp over in (
         λ z. rw kept (lines-refused room k buffer 15 whole (Memᴰ.tail (Memᴰ.head refl))
-            (λ s. line-short (complaintsIn room s) k buffer text (sound-says s) short)),
+            (λ s. line-short (complaints_in room s) k buffer text (sound_says s) short)),
         λ nz. absurd (nz none),
       ))
       (le_or_lt (length text) (length buffer))
@@ -197,7 +197,7 @@ pub lines_same : (room other : List ℕ) (k : ℕ) (buffer : List ℕ) (x y : Li
     → Lines room k buffer x buffer' → Lines other k buffer y buffer'' → (x ≡ y) × (buffer' ≡ buffer'')
 lines_same room other k buffer x y buffer' buffer'' s s' same p q =
     let rules : s.rules ≡ s'.rules = sound-rules room other s s' (ap (λ (h : Held). h.book) same) in
-    let list : complaintsIn room s ≡ complaintsIn other s' = rw (rules, same) in (
+    let list : complaints_in room s ≡ complaints_in other s' = rw (rules, same) in (
       p.answered s ∙ ap (λ (m : List Matched). line_answer m k buffer) list ∙ sym (q.answered s'),
       p.wrote s ∙ ap (λ (m : List Matched). line_buffer m k buffer) list ∙ sym (q.wrote s'),
     )

@@ -12,7 +12,7 @@ use lib.Dec.{eqb}
 use lib.ListN.{length, get_or, length-append}
 use Rattle.numbers.specs.Spliced.{spliced}
 use Rattle.numbers.proofs.BigEndian.{uint-below}
-use Rattle.numbers.proofs.Digits.{length-digits_16}
+use Rattle.numbers.proofs.Digits.{length_digits_16}
 use Rattle.book.specs.Rules.{Rule}
 use Rattle.book.specs.Read.{read_book, accepted}
 use Rattle.book.specs.Limits.{All, RuleKept}
@@ -85,7 +85,7 @@ length-line book rules R reads byte narrow m i =
       k.0.most,
       k.0.whole,
       length-line_text m.rule.number m.readings m.rule.wording,
-      length-digits_16 m.rule.number k.1,
+      length_digits_16 m.rule.number k.1,
       length-entries d m.readings (λ j h. narrow (get_or m.readings j d) (c.1.present j (omega arith))),
       length-trimmed m.rule.wording,
     )

@@ -14,9 +14,9 @@ use Rattle.matching.specs.Order.{Less, Sorted}
 use Rattle.matching.specs.Step.{add, remove}
 use Rattle.room.specs.Broken.{broken}
 use Rattle.room.specs.Held.{held, complete_of}
-use Rattle.room.specs.Layout.{head_number, limit, parts, orderPart, slotsPart}
+use Rattle.room.specs.Layout.{head_number, limit, parts, order_part, slots_part}
 use Rattle.room.specs.Parts.{part}
-use Rattle.room.proofs.BrokenLaws.{Whole, not-broken-whole}
+use Rattle.room.proofs.BrokenLaws.{Whole, not_broken-whole}
 use Rattle.room.proofs.Large.{large-part}
 use Rattle.row.specs.Row.{leading, lesser, stands_at}
 use Rattle.step.specs.Worked.{AddedAt, RemovedAt}
@@ -24,10 +24,10 @@ use Rattle.step.proofs.Lending.{in_room, number_read}
 use Rattle.malletfrond.specs.declared.StepAnswer.TheVariants as a
 use Rattle.sound.specs.Sound.{Sound}
 use Rattle.malletfrond.specs.Promise.{Steps}
-use Rattle.malletfrond.proofs.AddLaws.{stands, adds-full, adds-over, adds-accepted}
+use Rattle.malletfrond.proofs.AddLaws.{stands, adds_full, adds_over, adds_accepted}
 use Rattle.sound.proofs.Ranks.{rank_in, stands-there}
 use Rattle.sound.proofs.ReadBack.{Fits}
-use Rattle.malletfrond.proofs.RemoveLaws.{removes-accepted}
+use Rattle.malletfrond.proofs.RemoveLaws.{removes_accepted}
 
 module _ (room : List ℕ) (whole : broken room ≡ false) {n : ℕ} (read : n ≡ uint 2 room 4) where
   -- the readings present, as they are read
@@ -37,7 +37,7 @@ module _ (room : List ℕ) (whole : broken room ≡ false) {n : ℕ} (read : n �
   -- the order and the slots are lent long enough for a reading to be looked up
   pub parts-lent : (n ≤ length (part room 8816 256)) × (length (part room 9072 3072) ≡ 3072)
   parts-lent =
-      let w : Whole room = not-broken-whole room whole in
+      let w : Whole room = not_broken-whole room whole in
       let large : 18288 ≤ length room = in_room room whole (lit≤ tt) in
       (omega (arith, many_read, large-part room 8816 256 (lit≤ tt) large), large-part room 9072 3072 (lit≤ tt) large)
 
@@ -47,7 +47,7 @@ pub record LookedUp (room : List ℕ) (w : Reading) (n p : ℕ) (found : Bool) :
   pub n_is : n ≡ head_number room 2
   pub p_is : Sound room → p ≡ rank_in room w
   pub within : p ≤ n
-  pub found-is : stands room w p ≡ found
+  pub found_is : stands room w p ≡ found
 
 pub looked_up : (room : List ℕ) (w : Reading) (whole : broken room ≡ false) {n p : ℕ} {found : Bool} → n ≡ uint 2 room 4
     → (p ≤ n) × (Sorted (Less is_less) (map (reading_at (part room 9072 3072)) (take n (part room 8816 256))) → p ≡ leading (lesser (part room 9072 3072) w) (take n (part room 8816 256)))
@@ -61,7 +61,7 @@ looked_up room w whole {n} {p} read rank found =
       n_is = n_is;
       p_is = λ s. (rw n_is at rank.1) s.ascending;
       within = rank.0;
-      found-is = sym (rw n_is at found);
+      found_is = sym (rw n_is at found);
     }
 
 module _ {room : List ℕ} {w : Reading} {n p : ℕ} {found : Bool} (k : LookedUp room w n p found) where
@@ -70,11 +70,11 @@ module _ {room : List ℕ} {w : Reading} {n p : ℕ} {found : Bool} (k : LookedU
   module _ (old : found ≡ true) where
     -- it stands among those present
     pub found-low : p < head_number room 2
-    found-low = (stands-there (slotsPart (parts room)) w (orderPart (parts room)) (head_number room 2) p (k.found-is ∙ old)).0
+    found-low = (stands-there (slots_part (parts room)) w (order_part (parts room)) (head_number room 2) p (k.found_is ∙ old)).0
 
-    pub removes-found : {tokens complete before changed : ℕ} {room' : List ℕ} → RemovedAt room p tokens complete room' → before ≡ complete_of room → changed ≡ before - complete
+    pub removes_found : {tokens complete before changed : ℕ} {room' : List ℕ} → RemovedAt room p tokens complete room' → before ≡ complete_of room → changed ≡ before - complete
         → Steps room (remove w) (a.Accepted (n - 1) tokens changed) room'
-    removes-found at b c = rw (k.n_is, c, b) (removes-accepted room w k.p_is k.whole (k.found-is ∙ old) at)
+    removes_found at b c = rw (k.n_is, c, b) (removes_accepted room w k.p_is k.whole (k.found_is ∙ old) at)
 
   -- ---- a reading that was not found, and is added where there is a slot for it
 
@@ -82,19 +82,19 @@ module _ {room : List ℕ} {w : Reading} {n p : ℕ} {found : Bool} (k : LookedU
     E-read : E ≡ head_number room 0
     E-read = number_read room 0 (lit≤ tt) read
 
-    pub adds-no-slot : E ≤ n → Steps room (add w) (a.Refused 13) room
-    adds-no-slot h = adds-full room w k.p_is k.whole (k.found-is ∙ new) (omega (arith, E-read))
+    pub adds_no_slot : E ≤ n → Steps room (add w) (a.Refused 13) room
+    adds_no_slot h = adds_full room w k.p_is k.whole (k.found_is ∙ new) (omega (arith, E-read))
 
     module _ (free : n < E) where
-      pub slot-free : head_number room 2 < head_number room 0
-      slot-free = omega (arith, E-read)
+      pub slot_free : head_number room 2 < head_number room 0
+      slot_free = omega (arith, E-read)
 
       module _ (fits : Fits w) {T : ℕ} (limit-read : T ≡ uint 2 room 2) {tokens complete : ℕ} {room' : List ℕ} (at : AddedAt room p w tokens complete room') where
         T-read : T ≡ limit room
         T-read = number_read room 1 (lit≤ tt) limit-read
 
-        pub adds-too-many : T < tokens → Steps room (add w) (a.Refused 14) room'
-        adds-too-many h = adds-over room w k.p_is k.whole (k.found-is ∙ new) slot-free at fits (omega (arith, T-read))
+        pub adds_too_many : T < tokens → Steps room (add w) (a.Refused 14) room'
+        adds_too_many h = adds_over room w k.p_is k.whole (k.found_is ∙ new) slot_free at fits (omega (arith, T-read))
 
-        pub adds-new : {before changed : ℕ} → tokens ≤ T → before ≡ complete_of room → changed ≡ complete - before → Steps room (add w) (a.Accepted (n + 1) tokens changed) room'
-        adds-new h b c = rw (k.n_is, c, b) (adds-accepted room w k.p_is k.whole (k.found-is ∙ new) slot-free at fits (omega (arith, T-read)))
+        pub adds_new : {before changed : ℕ} → tokens ≤ T → before ≡ complete_of room → changed ≡ complete - before → Steps room (add w) (a.Accepted (n + 1) tokens changed) room'
+        adds_new h b c = rw (k.n_is, c, b) (adds_accepted room w k.p_is k.whole (k.found_is ∙ new) slot_free at fits (omega (arith, T-read)))

@@ -11,7 +11,7 @@ use lib.Dec.{leb}
 use lib.ListN.{length, take, drop, get_or, replicate}
 use lib.Seq.{take_at}
 use Rattle.numbers.specs.BigEndian.{uint}
-use Rattle.numbers.proofs.Spliced.{spliced-front}
+use Rattle.numbers.proofs.Spliced.{spliced_front}
 use Rattle.reading.specs.Reading.{reading_at}
 use Rattle.book.specs.declared.reader.BookAnswer.TheVariants as a
 use Rattle.book.specs.declared.reader.Placed.{Placed}
@@ -24,11 +24,11 @@ use Rattle.book.proofs.Stands.{read-stands}
 use Rattle.matching.specs.Complaints.{memories}
 use Rattle.matching.specs.Order.{nought}
 use Rattle.room.specs.Parts.{part, cut, below, twos}
-use Rattle.room.specs.Layout.{formula, widths, head_number, parts, head, bookPart, ruleConditionsPart, orderPart, slotsPart, rowsPart, nodesPart, lastsPart, restPart}
+use Rattle.room.specs.Layout.{formula, widths, head_number, parts, head, book_part, rule_conditions_part, order_part, slots_part, rows_part, nodes_part, lasts_part, rest_part}
 use Rattle.room.specs.Held.{Arranged, held, level, sifted, in_memory, slots_of, stored, tokens_from}
 use Rattle.room.specs.Written.{opened, Opening}
 use Rattle.room.specs.Broken.{sum}
-use Rattle.room.proofs.BrokenLaws.{Whole, whole-not-broken}
+use Rattle.room.proofs.BrokenLaws.{Whole, whole_not_broken}
 use Rattle.room.proofs.Written.{opened-number, parts-written}
 use Rattle.room.proofs.Order.{length-below, once-below}
 use Rattle.malletfrond.specs.declared.OpenAnswer.TheVariants as o
@@ -44,10 +44,10 @@ use Rattle.sound.proofs.NoReadings.{ends_of-none, completes_of-none, memories-no
 -- ---- the limits
 
 pub record Limits (E T : ℕ) : Type 0 where
-  pub E-low : 1 ≤ E
-  pub E-high : E ≤ 256
-  pub T-low : 1 ≤ T
-  pub T-high : T ≤ 2048
+  pub E_low : 1 ≤ E
+  pub E_high : E ≤ 256
+  pub T_low : 1 ≤ T
+  pub T_high : T ≤ 2048
 
 pub limits_fit_lem : (E T : ℕ) → (limits_fit E T ≡ true) ↔ Limits E T
 unfolding limits_fit
@@ -56,12 +56,12 @@ limits_fit_lem E T =
     let own = and-eq-true_iff (leb 1 E) (leb E 256) in
     let other = and-eq-true_iff (leb 1 T) (leb T 2048) in (
       λ h. record {
-        E-low = leb-true _ _ (own.0 (both.0 h).0).0;
-        E-high = leb-true _ _ (own.0 (both.0 h).0).1;
-        T-low = leb-true _ _ (other.0 (both.0 h).1).0;
-        T-high = leb-true _ _ (other.0 (both.0 h).1).1;
+        E_low = leb-true _ _ (own.0 (both.0 h).0).0;
+        E_high = leb-true _ _ (own.0 (both.0 h).0).1;
+        T_low = leb-true _ _ (other.0 (both.0 h).1).0;
+        T_high = leb-true _ _ (other.0 (both.0 h).1).1;
       },
-      λ l. simp (le-leb _ _ l.E-low, le-leb _ _ l.E-high, le-leb _ _ l.T-low, le-leb _ _ l.T-high),
+      λ l. simp (le-leb _ _ l.E_low, le-leb _ _ l.E_high, le-leb _ _ l.T_low, le-leb _ _ l.T_high),
     )
 
 -- ---- a room just opened
@@ -101,34 +101,34 @@ module _ (room room' book : List ℕ) (rules : List Rule) (E T : ℕ) (fit : Lim
   part-here k = ap (λ (qs : List (List ℕ)). get_or qs k []) parts-here
 
   -- no reading, so nothing in a memory, and no token
-  no-slots : slots_of room' ≡ []
-  no-slots = ap (λ (n : ℕ). take n (orderPart (parts room'))) (number 2 (omega arith))
+  no_slots : slots_of room' ≡ []
+  no_slots = ap (λ (n : ℕ). take n (order_part (parts room'))) (number 2 (omega arith))
 
-  no-readings : (held room').readings ≡ []
+  no_readings : (held room').readings ≡ []
   unfolding held
-  no-readings = ap (map (reading_at (slotsPart (parts room')))) no-slots
+  no_readings = ap (map (reading_at (slots_part (parts room')))) no_slots
 
-  no-memories : (held room').memories ≡ memories rules []
+  no_memories : (held room').memories ≡ memories rules []
   unfolding held sifted
-  no-memories =
-      ap (λ (slots : List ℕ). map (λ c. map (reading_at (slotsPart (parts room'))) (sifted (in_memory (rowsPart (parts room')) c) slots)) (below (head_number room' 6))) no-slots
+  no_memories =
+      ap (λ (slots : List ℕ). map (λ c. map (reading_at (slots_part (parts room'))) (sifted (in_memory (rows_part (parts room')) c) slots)) (below (head_number room' 6))) no_slots
       ∙ map-none (below (head_number room' 6))
       ∙ ap (λ (n : ℕ). replicate n []) (length-below (head_number room' 6) ∙ number 6 (omega arith))
       ∙ sym (memories-none rules)
 
-  no-tokens : (held room').tokens ≡ tokens_held 0 rules []
+  no_tokens : (held room').tokens ≡ tokens_held 0 rules []
   unfolding held stored tokens_from
-  no-tokens =
+  no_tokens =
       ap (λ (n : ℕ). map (λ t. record { node = t.0; readings = t.1 })
-      (tokens_from (level (take (head_number room' 5) (ruleConditionsPart (parts room')))) (reading_at (slotsPart (parts room'))) []
-      (stored (take n (nodesPart (parts room'))) (take n (lastsPart (parts room')))))) (number 3 (omega arith))
+      (tokens_from (level (take (head_number room' 5) (rule_conditions_part (parts room')))) (reading_at (slots_part (parts room'))) []
+      (stored (take n (nodes_part (parts room'))) (take n (lasts_part (parts room')))))) (number 3 (omega arith))
       ∙ sym (tokens_held-none 0 rules)
 
   opened-holds : held room' ≡ held_of book rules E T []
   unfolding held held_of opened
   opened-holds =
       held_ext (held room') (held_of book rules E T [])
-      (ap₂ take (number 4 (omega arith)) (part-here 1 ∙ spliced-front (bookPart (cut 0 (widths T) room)) book) ∙ take_at book _ (length book) refl)
+      (ap₂ take (number 4 (omega arith)) (part-here 1 ∙ spliced_front (book_part (cut 0 (widths T) room)) book) ∙ take_at book _ (length book) refl)
       (number 0 (omega arith))
       (number 1 (omega arith))
       (ap₂ twos (number 5 (omega arith) ∙ sym (length-rule_places 0 rules)) (part-here 3) ∙ twos-padded 32 (rule_places 0 rules) (omega (arith, length-rule_places 0 rules, kept.most)) (rule_places-most 8192 0 rules within))
@@ -137,9 +137,9 @@ module _ (room room' book : List ℕ) (rules : List Rule) (E T : ℕ) (fit : Lim
       ∙ twos-padded 192 (condition_places 0 rules) (omega (arith, length-condition_places 0 rules, few)) (condition_places-most 8192 0 rules within))
       (ap₂ twos (number 5 (omega arith)) (part-here 5) ∙ twos_zeros (length rules) 64 ∙ sym (ends_of-none 0 rules))
       (ap₂ twos (number 5 (omega arith)) (part-here 6) ∙ twos_zeros (length rules) 64 ∙ sym (completes_of-none 0 rules kept.some))
-      no-readings
-      no-memories
-      no-tokens
+      no_readings
+      no_memories
+      no_tokens
 
   whole : Whole room'
   unfolding opened
@@ -148,10 +148,10 @@ module _ (room room' book : List ℕ) (rules : List Rule) (E T : ℕ) (fit : Lim
       let none : (l : List ℕ) → l ≡ replicate 64 0 → (i : ℕ) → uint 2 l i ≡ 0 = λ l e i. rw e (uint_zeros 64 i) in
       record {
         large = omega (arith, number 1 (omega arith));
-        E-low = omega (arith, number 0 (omega arith));
-        E-high = omega (arith, number 0 (omega arith));
-        T-low = omega (arith, number 1 (omega arith));
-        T-high = omega (arith, number 1 (omega arith));
+        E_low = omega (arith, number 0 (omega arith));
+        E_high = omega (arith, number 0 (omega arith));
+        T_low = omega (arith, number 1 (omega arith));
+        T_high = omega (arith, number 1 (omega arith));
         readings = omega (arith, number 2 (omega arith));
         tokens = omega (arith, number 3 (omega arith));
         book = omega (arith, number 4 (omega arith), short);
@@ -169,13 +169,13 @@ module _ (room room' book : List ℕ) (rules : List Rule) (E T : ℕ) (fit : Lim
   arranged = record { once = rw (part-here 7) (once-below 256); used = λ k h. absurd (omega (arith, number 3 (omega arith))) }
 
   opened-sound : Sound room'
-  opened-sound = held-sound room' book rules E T [] (whole-not-broken room' whole) arranged reads nought opened-holds
+  opened-sound = held-sound room' book rules E T [] (whole_not_broken room' whole) arranged reads nought opened-holds
 
   opened-past : drop (formula E T) room' ≡ drop (formula E T) room
   unfolding opened
   opened-past =
       let end : 18288 + T + T ≡ 18288 + T * 2 = omega arith in
-      rw end at (ap (λ (qs : List (List ℕ)). restPart qs) written)
+      rw end at (ap (λ (qs : List (List ℕ)). rest_part qs) written)
 
   opens-opened : Opens room book E T (o.Opened 0 0 0) room'
   unfolding open_answer opened_by
@@ -204,17 +204,17 @@ module _ (room book : List ℕ) (E T : ℕ) where
         long = refl;
       }
 
-  pub opens-unfit : limits_fit E T ≡ false → Opens room book E T (o.Refused 8 0) room
+  pub opens_unfit : limits_fit E T ≡ false → Opens room book E T (o.Refused 8 0) room
   unfolding open_answer
-  opens-unfit h = opens-refused 8 0 (simp h)
+  opens_unfit h = opens-refused 8 0 (simp h)
 
   pub opens_small : limits_fit E T ≡ true → length room < formula E T → Opens room book E T (o.Refused 9 0) room
   unfolding open_answer
   opens_small h short = opens-refused 9 0 (simp (h, lt-ltb (length room) (18288 + T * 2) short))
 
-  pub opens-not-read : limits_fit E T ≡ true → formula E T ≤ length room → (number place : ℕ) → read_book book ≡ refused number place → Opens room book E T (o.Refused number place) room
+  pub opens_not_read : limits_fit E T ≡ true → formula E T ≤ length room → (number place : ℕ) → read_book book ≡ refused number place → Opens room book E T (o.Refused number place) room
   unfolding open_answer opened_by
-  opens-not-read h large number place e = opens-refused number place (simp (h, le-ltb (length room) (18288 + T * 2) large, e))
+  opens_not_read h large number place e = opens-refused number place (simp (h, le-ltb (length room) (18288 + T * 2) large, e))
 
 -- ---- what was found of a book: its rules, how many they and their conditions are, and their places
 

@@ -56,32 +56,32 @@ after_keeps s (line k buffer) = refl
 after_keeps s check = refl
 
 module _ (room : List ℕ) where
-  pub allowed-sound : (call : Call) (reply : Reply call) (room' : List ℕ) → Allowed room call reply room' → Sound room → Sound room'
-  allowed-sound (step x) reply room' p s = p.sound s
-  allowed-sound counts reply room' p s = rw p.1 s
-  allowed-sound (line k buffer) reply room' p s = rw p.1 s
-  allowed-sound check reply room' p s = rw p.1 s
+  pub allowed_sound : (call : Call) (reply : Reply call) (room' : List ℕ) → Allowed room call reply room' → Sound room → Sound room'
+  allowed_sound (step x) reply room' p s = p.sound s
+  allowed_sound counts reply room' p s = rw p.1 s
+  allowed_sound (line k buffer) reply room' p s = rw p.1 s
+  allowed_sound check reply room' p s = rw p.1 s
 
   module _ (s : Sound room) where
-    pub allowed-reply : (call : Call) (reply : Reply call) (room' : List ℕ) → Allowed room call reply room' → reply ≡ reply_in (state_of room s) call
+    pub allowed_reply : (call : Call) (reply : Reply call) (room' : List ℕ) → Allowed room call reply room' → reply ≡ reply_in (state_of room s) call
     unfolding reply_in
-    allowed-reply (step x) reply room' p = p.answered s
-    allowed-reply counts reply room' p = p.0.defined s
-    allowed-reply (line k buffer) reply room' p = λ i. (p.0.answered s i, p.0.wrote s i)
-    allowed-reply check reply room' p = p.0.exact.1 s
+    allowed_reply (step x) reply room' p = p.answered s
+    allowed_reply counts reply room' p = p.0.defined s
+    allowed_reply (line k buffer) reply room' p = λ i. (p.0.answered s i, p.0.wrote s i)
+    allowed_reply check reply room' p = p.0.exact.1 s
 
     -- book and limits stay, and the readings are those of the next state
-    pub allowed-holds : (call : Call) (reply : Reply call) (room' : List ℕ) → Allowed room call reply room'
+    pub allowed_holds : (call : Call) (reply : Reply call) (room' : List ℕ) → Allowed room call reply room'
         → held room' ≡ held_of (held room).book s.rules (held room).E (held room).T (state_after (state_of room s) call).readings
     unfolding state_after
-    allowed-holds (step x) reply room' p = p.holds s
-    allowed-holds counts reply room' p = rw p.1 s.holds
-    allowed-holds (line k buffer) reply room' p = rw p.1 s.holds
-    allowed-holds check reply room' p = rw p.1 s.holds
+    allowed_holds (step x) reply room' p = p.holds s
+    allowed_holds counts reply room' p = rw p.1 s.holds
+    allowed_holds (line k buffer) reply room' p = rw p.1 s.holds
+    allowed_holds check reply room' p = rw p.1 s.holds
 
-    pub allowed-state : (call : Call) (reply : Reply call) (room' : List ℕ) → Allowed room call reply room' → (s' : Sound room') → state_of room' s' ≡ state_after (state_of room s) call
-    allowed-state call reply room' p s' =
-        sound_state room' (held room).book s.rules (held room).E (held room).T (state_after (state_of room s) call).readings s' s.reads (allowed-holds call reply room' p)
+    pub allowed_state : (call : Call) (reply : Reply call) (room' : List ℕ) → Allowed room call reply room' → (s' : Sound room') → state_of room' s' ≡ state_after (state_of room s) call
+    allowed_state call reply room' p s' =
+        sound_state room' (held room).book s.rules (held room).E (held room).T (state_after (state_of room s) call).readings s' s.reads (allowed_holds call reply room' p)
         ∙ sym (after_keeps (state_of room s) call)
 
 -- of two sound rooms that hold the same: the same reply, and they hold the same after it
@@ -89,10 +89,10 @@ pub allowed_same : (room other : List ℕ) (call : Call) (x y : Reply call) (roo
     → Allowed other call y other' → (x ≡ y) × (held room' ≡ held other')
 allowed_same room other call x y room' other' s s' same p q =
     let state : state_of room s ≡ state_of other s' = state_same room other s s' same in (
-      allowed-reply room s call x room' p ∙ ap (λ (t : State). reply_in t call) state ∙ sym (allowed-reply other s' call y other' q),
-      allowed-holds room s call x room' p
+      allowed_reply room s call x room' p ∙ ap (λ (t : State). reply_in t call) state ∙ sym (allowed_reply other s' call y other' q),
+      allowed_holds room s call x room' p
           ∙ ap₂ (λ (h : Held) (t : State). held_of h.book t.book h.E h.T (state_after t call).readings) same state
-          ∙ sym (allowed-holds other s' call y other' q),
+          ∙ sym (allowed_holds other s' call y other' q),
     )
 
 -- ---- a run
@@ -110,22 +110,22 @@ events_in s (call ∷ calls) = (call, reply_in s call) ∷ events_in (state_afte
 
 pub run_sound : {room : List ℕ} {events : List Event} {last : List ℕ} → Run room events last → Sound room → Sound last
 run_sound ended s = s
-run_sound (then {room = room} {middle = middle} {event = event} p r) s = run_sound r (allowed-sound room event.0 event.1 middle p s)
+run_sound (then {room = room} {middle = middle} {event = event} p r) s = run_sound r (allowed_sound room event.0 event.1 middle p s)
 
 pub run_state : {room : List ℕ} {events : List Event} {last : List ℕ} → Run room events last → (s : Sound room) (s' : Sound last)
     → state_of last s' ≡ states_after (state_of room s) (calls_of events)
 run_state (ended {room = room}) s s' = state_same room room s' s refl
 run_state (then {room = room} {middle = middle} {event = event} {rest = rest} p r) s s' =
-    let m : Sound middle = allowed-sound room event.0 event.1 middle p s in
-    run_state r m s' ∙ ap (λ (t : State). states_after t (calls_of rest)) (allowed-state room s event.0 event.1 middle p m)
+    let m : Sound middle = allowed_sound room event.0 event.1 middle p s in
+    run_state r m s' ∙ ap (λ (t : State). states_after t (calls_of rest)) (allowed_state room s event.0 event.1 middle p m)
 
 pub run_replies : {room : List ℕ} {events : List Event} {last : List ℕ} → Run room events last → (s : Sound room) → events ≡ events_in (state_of room s) (calls_of events)
 run_replies ended s = refl
 run_replies (then {room = room} {middle = middle} {event = event} {rest = rest} p r) s =
-    let m : Sound middle = allowed-sound room event.0 event.1 middle p s in
-    let here : event.1 ≡ reply_in (state_of room s) event.0 = allowed-reply room s event.0 event.1 middle p in
+    let m : Sound middle = allowed_sound room event.0 event.1 middle p s in
+    let here : event.1 ≡ reply_in (state_of room s) event.0 = allowed_reply room s event.0 event.1 middle p in
     let on : rest ≡ events_in (state_after (state_of room s) event.0) (calls_of rest) =
-    run_replies r m ∙ ap (λ (t : State). events_in t (calls_of rest)) (allowed-state room s event.0 event.1 middle p m) in
+    run_replies r m ∙ ap (λ (t : State). events_in t (calls_of rest)) (allowed_state room s event.0 event.1 middle p m) in
     λ i. (event.0, here i) ∷ on i
 
 -- the book's bytes stay
@@ -133,7 +133,7 @@ pub run-book : {room : List ℕ} {events : List Event} {last : List ℕ} → Run
 unfolding held_of
 run-book ended s = refl
 run-book (then {room = room} {middle = middle} {event = event} p r) s =
-    run-book r (allowed-sound room event.0 event.1 middle p s) ∙ ap (λ (h : Held). h.book) (allowed-holds room s event.0 event.1 middle p)
+    run-book r (allowed_sound room event.0 event.1 middle p s) ∙ ap (λ (h : Held). h.book) (allowed_holds room s event.0 event.1 middle p)
 
 -- ---- on values: what every call keeps
 

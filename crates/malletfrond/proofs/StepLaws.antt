@@ -10,7 +10,7 @@ use native.Mathlib.Omega.{arith}
 use lib.ListN.{length, drop}
 use Rattle.matching.specs.Step.{Stepped, Step, add, remove, accepted, refuse, stepped}
 use Rattle.room.specs.Parts.{cut}
-use Rattle.room.specs.Layout.{widths, head_number, limit, formula, parts, restPart}
+use Rattle.room.specs.Layout.{widths, head_number, limit, formula, parts, rest_part}
 use Rattle.room.specs.Broken.{broken}
 use Rattle.room.specs.Held.{held}
 use Rattle.room.specs.Written.{Aside}
@@ -64,7 +64,7 @@ unfolding written.stepped
 past-written room room' aside slots rows e =
     let T : ℕ = limit room in
     let end : 18288 + T + T ≡ 18288 + T * 2 = omega arith in
-    rw end at (ap (λ (ps : List (List ℕ)). restPart ps) e)
+    rw end at (ap (λ (ps : List (List ℕ)). rest_part ps) e)
 
 -- a step accepted is not one refused
 pub accepted_not_refused : (readings tokens changed number : ℕ) → a.Accepted readings tokens changed ≡ a.Refused number → ⊥
@@ -105,5 +105,5 @@ not_10 (add w) m = ⊎_elim (λ (e : 10 ≡ 11). omega arith)
     (Memᴰ.cases_cons m)
 not_10 (remove w) m = ⊎_elim (λ (e : 10 ≡ 12). omega arith) Memᴰ.not-nil (Memᴰ.cases_cons m)
 
-pub steps-never_10 : (room : List ℕ) (step : Step) (answer : StepAnswer) (room' : List ℕ) → Sound room → Steps room step answer room' → ¬ (answer ≡ a.Refused 10)
-steps-never_10 room step answer room' s p e = not_10 step (p.numbered 10 s.whole e)
+pub steps_never_10 : (room : List ℕ) (step : Step) (answer : StepAnswer) (room' : List ℕ) → Sound room → Steps room step answer room' → ¬ (answer ≡ a.Refused 10)
+steps_never_10 room step answer room' s p e = not_10 step (p.numbered 10 s.whole e)

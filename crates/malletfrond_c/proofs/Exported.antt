@@ -27,9 +27,9 @@ module _ {room book : List ℕ} {E T : ℕ} {answer : OpenAnswer} {room' : List 
   unfolding open_number open_place
   opened place e = record { answer = answer; opens = opens; number = rw e; at = rw e }
 
-  pub open-refused : (place : ℕ) {number at : ℕ} → answer ≡ o.Refused number at → OpensOut room book E T place number at room'
+  pub open_refused : (place : ℕ) {number at : ℕ} → answer ≡ o.Refused number at → OpensOut room book E T place number at room'
   unfolding open_number open_place
-  open-refused place e = record { answer = answer; opens = opens; number = rw e; at = rw e }
+  open_refused place e = record { answer = answer; opens = opens; number = rw e; at = rw e }
 
 -- ---- a step
 

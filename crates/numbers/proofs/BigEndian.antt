@@ -10,7 +10,7 @@ use lib.ListN.{length, drop, get_or, length-append}
 use lib.Seq.{append_snoc, get_or_at, get_or-drop}
 use Rattle.numbers.specs.BigEndian.{uint, bytes}
 use Rattle.numbers.specs.Spliced.{spliced}
-use Rattle.numbers.proofs.Spliced.{getD-spliced-before, getD-spliced-in, getD-spliced-after}
+use Rattle.numbers.proofs.Spliced.{get_or-spliced-before, get_or-spliced_in, get_or-spliced-after}
 
 -- ---- a byte more
 
@@ -77,18 +77,18 @@ uint-bytes (suc n) x rest h =
 
 module _ (xs : List ℕ) (a : ℕ) (ys : List ℕ) (h : a ≤ length xs) where
   pub uint-spliced-before : (n i : ℕ) → i + n ≤ a → uint n (spliced xs a ys) i ≡ uint n xs i
-  uint-spliced-before n i l = uint_ext n (spliced xs a ys) i xs i λ k m. getD-spliced-before xs a ys h (i + k) 0 (omega arith)
+  uint-spliced-before n i l = uint_ext n (spliced xs a ys) i xs i λ k m. get_or-spliced-before xs a ys h (i + k) 0 (omega arith)
 
-  pub uint-spliced-in : (n i : ℕ) → i + n ≤ length ys → uint n (spliced xs a ys) (a + i) ≡ uint n ys i
-  uint-spliced-in n i l =
-      uint_ext n (spliced xs a ys) (a + i) ys i λ k m. ap (λ (j : ℕ). get_or (spliced xs a ys) j 0) (omega arith) ∙ getD-spliced-in xs a ys h (i + k) 0 (omega arith)
+  pub uint-spliced_in : (n i : ℕ) → i + n ≤ length ys → uint n (spliced xs a ys) (a + i) ≡ uint n ys i
+  uint-spliced_in n i l =
+      uint_ext n (spliced xs a ys) (a + i) ys i λ k m. ap (λ (j : ℕ). get_or (spliced xs a ys) j 0) (omega arith) ∙ get_or-spliced_in xs a ys h (i + k) 0 (omega arith)
 
   pub uint-spliced-after : (n i : ℕ) → a + length ys ≤ i → uint n (spliced xs a ys) i ≡ uint n xs i
-  uint-spliced-after n i l = uint_ext n (spliced xs a ys) i xs i λ k m. getD-spliced-after xs a ys h (i + k) 0 (omega arith)
+  uint-spliced-after n i l = uint_ext n (spliced xs a ys) i xs i λ k m. get_or-spliced-after xs a ys h (i + k) 0 (omega arith)
 
 pub uint-spliced : (xs : List ℕ) (a n x : ℕ) → a + n ≤ length xs → x < 256 ^ n → uint n (spliced xs a (bytes n x)) a ≡ x
 uint-spliced xs a n x h l =
     ap (uint n (spliced xs a (bytes n x))) (sym (add-zero a))
-    ∙ uint-spliced-in xs a (bytes n x) (omega arith) n 0 (omega (arith, length-bytes n x))
+    ∙ uint-spliced_in xs a (bytes n x) (omega arith) n 0 (omega (arith, length-bytes n x))
     ∙ ap (λ (b : List ℕ). uint n b 0) (sym (append-nil (bytes n x)))
     ∙ uint-bytes n x [] l

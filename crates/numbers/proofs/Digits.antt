@@ -10,7 +10,7 @@ use borrow.Author.Tests.{lt-ltb, le-ltb}
 use lib.ListN.{length, set, length-append, length-set}
 use Rattle.numbers.specs.Digits.{digits_to, digits}
 use Rattle.numbers.specs.Spliced.{spliced}
-use Rattle.numbers.proofs.Spliced.{set-spliced, spliced-up-to}
+use Rattle.numbers.proofs.Spliced.{set-spliced, spliced_up_to}
 
 small_to : (most x : ℕ) → x < 10 → digits_to (suc most) x ≡ (48 + x) ∷ []
 unfolding digits_to
@@ -80,19 +80,19 @@ length_digits (suc k) x h =
     ]
 
 -- and one from 10 ^ k on has k + 1
-pub length-digits_from : (k x : ℕ) → 10 ^ k ≤ x → x < 10 ^ suc k → length (digits x) ≡ suc k
-length-digits_from zero x l h = length-digits-small x h
-length-digits_from (suc k) x l h =
+pub length_digits_from : (k x : ℕ) → 10 ^ k ≤ x → x < 10 ^ suc k → length (digits x) ≡ suc k
+length_digits_from zero x l h = length-digits-small x h
+length_digits_from (suc k) x l h =
     let i : 10 ^ k * 10 ≤ x = rw (pow-suc 10 k) at l in
     let j : x < 10 ^ suc k * 10 = rw (pow-suc 10 (suc k)) at h in
     let large : 10 ≤ x = omega (arith, one-le-pow k 10 (omega arith)) in
-    omega (arith, length-digits-large x large, length-digits_from k (x / 10) (omega arith) (omega arith))
+    omega (arith, length-digits-large x large, length_digits_from k (x / 10) (omega arith) (omega arith))
 
-pub length-digits_32 : (x : ℕ) → x < 2 ^ 32 → (1 ≤ length (digits x)) × (length (digits x) ≤ 10)
-length-digits_32 x h = length_digits 9 x (omega arith)
+pub length_digits_32 : (x : ℕ) → x < 2 ^ 32 → (1 ≤ length (digits x)) × (length (digits x) ≤ 10)
+length_digits_32 x h = length_digits 9 x (omega arith)
 
-pub length-digits_16 : (x : ℕ) → x < 2 ^ 16 → (1 ≤ length (digits x)) × (length (digits x) ≤ 5)
-length-digits_16 x h = length_digits 4 x (omega arith)
+pub length_digits_16 : (x : ℕ) → x < 2 ^ 16 → (1 ≤ length (digits x)) × (length (digits x) ≤ 5)
+length_digits_16 x h = length_digits 4 x (omega arith)
 
 -- ---- written from the last on
 
@@ -105,7 +105,7 @@ last-put xs y a many some inside =
     let left : a ≡ length (digits (y / 10)) = omega (arith, length-digits-large y large) in (
       left,
       ap (λ (l : List ℕ). spliced l 0 (digits (y / 10))) (set-spliced xs a last inside)
-          ∙ spliced-up-to xs (digits (y / 10)) a (last ∷ []) (omega arith) left
+          ∙ spliced_up_to xs (digits (y / 10)) a (last ∷ []) (omega arith) left
           ∙ ap (spliced xs 0) (sym (digits-large y large)),
     )
 

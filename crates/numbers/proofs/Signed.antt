@@ -26,8 +26,8 @@ module _ (k : ℕ) (h : k < 2 ^ 63) where
   minus_is : negsuc 0 -ℤ to_z w64 k ≡ negsuc k
   minus_is = ap (λ (z : ℤ). negsuc 0 -ℤ z) (to_z_pos w64 k (omega arith)) ∙ less k
 
-  pub minus-fits : SFits w64 (negsuc 0 -ℤ to_z w64 k)
-  minus-fits = subst (SFits w64) (sym minus_is) (record { sfits = omega arith })
+  pub minus_fits : SFits w64 (negsuc 0 -ℤ to_z w64 k)
+  minus_fits = subst (SFits w64) (sym minus_is) (record { sfits = omega arith })
 
 -- the upper half: as much less than minus one as n is below the highest number
 pub signed_high : (n : ℕ) → Fits w64 n → 2 ^ 63 ≤ n → to_z w64 (of_z w64 (negsuc 0 -ℤ to_z w64 (0xffff_ffff_ffff_ffff - n))) ≡ signed n
@@ -36,4 +36,4 @@ signed_high n f h =
     let k = 0xffff_ffff_ffff_ffff - n in
     let l : k < 2 ^ 63 = omega arith in
     let e : k ≡ 2 ^ 64 - suc n = omega arith in
-    to_z-of_z {w = w64} (minus-fits k l) ∙ minus_is k l ∙ ap negsuc e ∙ sym (simp (le-ltb n (2 ^ 63) h, lt-ltb n (2 ^ 64) (omega arith)))
+    to_z-of_z {w = w64} (minus_fits k l) ∙ minus_is k l ∙ ap negsuc e ∙ sym (simp (le-ltb n (2 ^ 63) h, lt-ltb n (2 ^ 64) (omega arith)))

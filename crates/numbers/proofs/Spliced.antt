@@ -12,21 +12,21 @@ use Rattle.numbers.specs.Spliced.{spliced}
 module _ {A : Type 0} where
   -- ---- nothing, a front, stores
 
-  pub spliced-nil : (xs : List A) (a : ℕ) → spliced xs a [] ≡ xs
+  pub spliced_nil : (xs : List A) (a : ℕ) → spliced xs a [] ≡ xs
   unfolding spliced
-  spliced-nil xs a = rw add-zero (take-append-drop a xs)
+  spliced_nil xs a = rw add-zero (take-append-drop a xs)
 
-  pub spliced-front : (xs ys : List A) → spliced xs 0 ys ≡ ys ++ drop (length ys) xs
+  pub spliced_front : (xs ys : List A) → spliced xs 0 ys ≡ ys ++ drop (length ys) xs
   unfolding spliced
-  spliced-front xs ys = rw zero-add
+  spliced_front xs ys = rw zero-add
 
   -- stores one behind the other are a splice, and so is one store
-  pub sets-spliced : (xs : List A) (a : ℕ) (ys : List A) → a + length ys ≤ length xs → sets xs a ys ≡ spliced xs a ys
+  pub sets_spliced : (xs : List A) (a : ℕ) (ys : List A) → a + length ys ≤ length xs → sets xs a ys ≡ spliced xs a ys
   unfolding spliced
-  sets-spliced xs a ys h = sets-eq ys xs a h ∙ append_assoc (take a xs) ys (drop (a + length ys) xs)
+  sets_spliced xs a ys h = sets-eq ys xs a h ∙ append_assoc (take a xs) ys (drop (a + length ys) xs)
 
   pub set-spliced : (xs : List A) (i : ℕ) (v : A) → i < length xs → set xs i v ≡ spliced xs i (v ∷ [])
-  set-spliced xs i v h = sets-spliced xs i (v ∷ []) (omega arith)
+  set-spliced xs i v h = sets_spliced xs i (v ∷ []) (omega arith)
 
   -- ---- before, in and after the part
 
@@ -62,27 +62,27 @@ module _ {A : Type 0} where
           ∙ drop-drop (n - end) end xs
           ∙ ap (λ (m : ℕ). drop m xs) (sym e)
 
-      pub getD-spliced-before : (k : ℕ) (d : A) → k < a → get_or (spliced xs a ys) k d ≡ get_or xs k d
+      pub get_or-spliced-before : (k : ℕ) (d : A) → k < a → get_or (spliced xs a ys) k d ≡ get_or xs k d
       unfolding spliced
-      getD-spliced-before k d l =
+      get_or-spliced-before k d l =
           get_or-append (take a xs) (ys ++ drop (a + length ys) xs) d k (omega (arith, length-take-le a xs h)) ∙ get_or-take a xs k d l
 
-      pub getD-spliced-in : (k : ℕ) (d : A) → k < length ys → get_or (spliced xs a ys) (a + k) d ≡ get_or ys k d
-      getD-spliced-in k d l =
+      pub get_or-spliced_in : (k : ℕ) (d : A) → k < length ys → get_or (spliced xs a ys) (a + k) d ≡ get_or ys k d
+      get_or-spliced_in k d l =
           sym (get_or-drop a (spliced xs a ys) k d)
           ∙ ap (λ (l : List A). get_or l k d) drop_here
           ∙ get_or-append ys (drop (a + length ys) xs) d k l
 
-      pub getD-spliced-after : (k : ℕ) (d : A) → a + length ys ≤ k → get_or (spliced xs a ys) k d ≡ get_or xs k d
-      getD-spliced-after k d l =
+      pub get_or-spliced-after : (k : ℕ) (d : A) → a + length ys ≤ k → get_or (spliced xs a ys) k d ≡ get_or xs k d
+      get_or-spliced-after k d l =
           let at : (l : List A) → get_or (drop k l) 0 d ≡ get_or l k d = λ l. get_or-drop k l 0 d ∙ ap (λ (i : ℕ). get_or l i d) (add-zero k) in
           sym (at (spliced xs a ys)) ∙ ap (λ (l : List A). get_or l 0 d) (drop-spliced k l) ∙ at xs
 
       -- ---- one part behind another
 
-      pub spliced-twice : (b : ℕ) (zs : List A) → b ≡ a + length ys → spliced (spliced xs a ys) b zs ≡ spliced xs a (ys ++ zs)
+      pub spliced_twice : (b : ℕ) (zs : List A) → b ≡ a + length ys → spliced (spliced xs a ys) b zs ≡ spliced xs a (ys ++ zs)
       unfolding spliced
-      spliced-twice b zs e =
+      spliced_twice b zs e =
           let head : take b (spliced xs a ys) ≡ take a xs ++ ys = ap (take b) regrouped ∙ take_at (take a xs ++ ys) (drop (a + length ys) xs) b (length-head ∙ sym e) in
           let end : b + length zs ≡ a + length (ys ++ zs) = omega (arith, length-append ys zs) in
           rw (head, drop-spliced (b + length zs) (omega arith), end) (simp append_assoc)
@@ -94,10 +94,10 @@ module _ {A : Type 0} where
         ∙ omega (arith, length-head (omega arith), length-drop (a + length ys) xs)
 
   -- a part written at the front, up to one that stands already
-  pub spliced-up-to : (xs ys : List A) (b : ℕ) (zs : List A) → b ≤ length xs → b ≡ length ys → spliced (spliced xs b zs) 0 ys ≡ spliced xs 0 (ys ++ zs)
-  spliced-up-to xs ys b zs h e =
+  pub spliced_up_to : (xs ys : List A) (b : ℕ) (zs : List A) → b ≤ length xs → b ≡ length ys → spliced (spliced xs b zs) 0 ys ≡ spliced xs 0 (ys ++ zs)
+  spliced_up_to xs ys b zs h e =
       let end : b + length zs ≡ length (ys ++ zs) = omega (arith, length-append ys zs) in
-      rw (spliced-front, spliced-front, ← e, drop_here xs b zs h, end) (sym (append_assoc ys zs (drop (length (ys ++ zs)) xs)))
+      rw (spliced_front, spliced_front, ← e, drop_here xs b zs h, end) (sym (append_assoc ys zs (drop (length (ys ++ zs)) xs)))
 
   -- ---- a part lent from the middle
 
@@ -110,5 +110,5 @@ module _ {A : Type 0} where
       let n : ℕ = length xs - a in
       let short : length rest ≤ n = omega (arith, length-drop a xs) in
       let front : r ≡ ys ++ drop (a + length ys) xs =
-      e ∙ spliced-front (take n rest) ys ∙ ap (λ (l : List A). ys ++ drop (length ys) l) (take_all n rest short) ∙ ap (λ (l : List A). ys ++ l) (drop-drop (length ys) a xs) in
+      e ∙ spliced_front (take n rest) ys ∙ ap (λ (l : List A). ys ++ drop (length ys) l) (take_all n rest short) ∙ ap (λ (l : List A). ys ++ l) (drop-drop (length ys) a xs) in
       ap (λ (l : List A). take a xs ++ (r ++ l)) (drop_of_length-le rest short) ∙ ap (λ (l : List A). take a xs ++ l) (append-nil r ∙ front)

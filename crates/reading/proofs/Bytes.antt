@@ -7,7 +7,7 @@ use lib.ListN.{length, length-append}
 use Rattle.numbers.specs.BigEndian.{bytes}
 use Rattle.numbers.specs.Spliced.{spliced}
 use Rattle.numbers.proofs.BigEndian.{length-bytes}
-use Rattle.numbers.proofs.Spliced.{spliced-twice}
+use Rattle.numbers.proofs.Spliced.{spliced_twice}
 use Rattle.reading.specs.declared.Reading.{Reading}
 use Rattle.reading.specs.Reading.{reading_bytes}
 
@@ -33,5 +33,5 @@ reading_bytes-spliced xs xs1 xs2 xs3 a r h e1 e2 e3 =
     let v : List ℕ = bytes 4 r.value in
     let b : a + 4 ≡ a + length p = omega (arith, length-bytes 4 r.line) in
     let c : a + 8 ≡ a + length (p ++ q) = omega (arith, length-append p q, length-bytes 4 r.line, length-bytes 4 r.column) in
-    let two : xs2 ≡ spliced xs a (p ++ q) = e2 ∙ ap (λ (l : List ℕ). spliced l (a + 4) q) e1 ∙ spliced-twice xs a p h (a + 4) q b in
-    e3 ∙ ap (λ (l : List ℕ). spliced l (a + 8) v) two ∙ spliced-twice xs a (p ++ q) h (a + 8) v c ∙ ap (spliced xs a) (append_assoc p q v)
+    let two : xs2 ≡ spliced xs a (p ++ q) = e2 ∙ ap (λ (l : List ℕ). spliced l (a + 4) q) e1 ∙ spliced_twice xs a p h (a + 4) q b in
+    e3 ∙ ap (λ (l : List ℕ). spliced l (a + 8) v) two ∙ spliced_twice xs a (p ++ q) h (a + 8) v c ∙ ap (spliced xs a) (append_assoc p q v)

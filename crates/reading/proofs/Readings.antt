@@ -19,8 +19,8 @@ module _ (x y : ℕ) (rest : Bool) where
       let n : x ≡ y → ⊥ = λ e. omega arith in
       simp (le-ltb x y (omega arith), ne_eqb x y n)
 
-  less-rest : x ≡ y → (ltb x y || (eqb x y && rest)) ≡ rest
-  less-rest e = simp (le-ltb x y (omega arith), eq-eqb x y e)
+  less_rest : x ≡ y → (ltb x y || (eqb x y && rest)) ≡ rest
+  less_rest e = simp (le-ltb x y (omega arith), eq-eqb x y e)
 
 module _ (a b : Reading) where
   -- ---- is_less
@@ -29,32 +29,32 @@ module _ (a b : Reading) where
   unfolding is_less
   is_less-line h = less-first _ _ _ h
 
-  pub isLess-line-after : b.line < a.line → is_less a b ≡ false
+  pub is_less-line-after : b.line < a.line → is_less a b ≡ false
   unfolding is_less
-  isLess-line-after h = less-after _ _ _ h
+  is_less-line-after h = less-after _ _ _ h
 
-  pub isLess-column : a.line ≡ b.line → a.column < b.column → is_less a b ≡ true
+  pub is_less_column : a.line ≡ b.line → a.column < b.column → is_less a b ≡ true
   unfolding is_less
-  isLess-column e h = less-rest _ _ _ e ∙ less-first _ _ _ h
+  is_less_column e h = less_rest _ _ _ e ∙ less-first _ _ _ h
 
-  pub isLess-column-after : a.line ≡ b.line → b.column < a.column → is_less a b ≡ false
+  pub is_less_column_after : a.line ≡ b.line → b.column < a.column → is_less a b ≡ false
   unfolding is_less
-  isLess-column-after e h = less-rest _ _ _ e ∙ less-after _ _ _ h
+  is_less_column_after e h = less_rest _ _ _ e ∙ less-after _ _ _ h
 
-  pub isLess-value : a.line ≡ b.line → a.column ≡ b.column → is_less a b ≡ ltb a.value b.value
+  pub is_less_value : a.line ≡ b.line → a.column ≡ b.column → is_less a b ≡ ltb a.value b.value
   unfolding is_less
-  isLess-value e f = less-rest _ _ _ e ∙ less-rest _ _ _ f
+  is_less_value e f = less_rest _ _ _ e ∙ less_rest _ _ _ f
 
   -- ---- is_same
 
-  pub isSame-line : (a.line ≡ b.line → ⊥) → is_same a b ≡ false
+  pub is_same-line : (a.line ≡ b.line → ⊥) → is_same a b ≡ false
   unfolding is_same
-  isSame-line n = simp (ne_eqb a.line b.line n)
+  is_same-line n = simp (ne_eqb a.line b.line n)
 
-  pub isSame-column : a.line ≡ b.line → (a.column ≡ b.column → ⊥) → is_same a b ≡ false
+  pub is_same_column : a.line ≡ b.line → (a.column ≡ b.column → ⊥) → is_same a b ≡ false
   unfolding is_same
-  isSame-column e n = simp (eq-eqb a.line b.line e, ne_eqb a.column b.column n)
+  is_same_column e n = simp (eq-eqb a.line b.line e, ne_eqb a.column b.column n)
 
-  pub isSame-value : a.line ≡ b.line → a.column ≡ b.column → is_same a b ≡ eqb a.value b.value
+  pub is_same_value : a.line ≡ b.line → a.column ≡ b.column → is_same a b ≡ eqb a.value b.value
   unfolding is_same
-  isSame-value e f = simp (eq-eqb a.line b.line e, eq-eqb a.column b.column f)
+  is_same_value e f = simp (eq-eqb a.line b.line e, eq-eqb a.column b.column f)

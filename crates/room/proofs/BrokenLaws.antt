@@ -66,8 +66,8 @@ one_to_six k = (
 abbrev all_one_to_six : ℕ → List ℕ → Bool
 all_one_to_six n l = every (λ k. leb 1 k && leb k 6) (take n l)
 
-all-one_to_six : (n : ℕ) (l : List ℕ) → n ≤ length l → (all_one_to_six n l ≡ true) ↔ ((i : ℕ) → i < n → (1 ≤ get_or l i 0) × (get_or l i 0 ≤ 6))
-all-one_to_six n l h =
+all_one_to_six_lem : (n : ℕ) (l : List ℕ) → n ≤ length l → (all_one_to_six n l ≡ true) ↔ ((i : ℕ) → i < n → (1 ≤ get_or l i 0) × (get_or l i 0 ≤ 6))
+all_one_to_six_lem n l h =
     let each = every_known (λ k. leb 1 k && leb k 6) (take n l) n (λ i. get_or l i 0) (length-take-le n l h) (λ i k. get_or-take n l i 0 k) in
     (λ t i k. (one_to_six _).0 (each.0 t i k), λ t. each.1 λ i k. (one_to_six _).1 (t i k))
 
@@ -96,10 +96,10 @@ head_number-at room k h = uint_ext 2 (take 16 room) (k * 2) room (k * 2) λ j l.
 
 -- what is asked of them: n k is number k
 pub record Head (n : ℕ → ℕ) : Type 0 where
-  pub E-low : 1 ≤ n 0
-  pub E-high : n 0 ≤ 256
-  pub T-low : 1 ≤ n 1
-  pub T-high : n 1 ≤ 2048
+  pub E_low : 1 ≤ n 0
+  pub E_high : n 0 ≤ 256
+  pub T_low : 1 ≤ n 1
+  pub T_high : n 1 ≤ 2048
   pub readings : n 2 ≤ n 0
   pub tokens : n 3 ≤ n 1
   pub book : n 4 ≤ 8192
@@ -111,10 +111,10 @@ head_fits_lem : (room : List ℕ) → (head_fits room ≡ true) ↔ Head (head_n
 unfolding head_fits
 head_fits_lem room = (
   λ h. record {
-    E-low = asked_le 1 (head_number room 0) h λ f. simp f;
-    E-high = asked_le (head_number room 0) 256 h λ f. simp (f, and-false);
-    T-low = asked_le 1 (head_number room 1) h λ f. simp (f, and-false);
-    T-high = asked_le (head_number room 1) 2048 h λ f. simp (f, and-false);
+    E_low = asked_le 1 (head_number room 0) h λ f. simp f;
+    E_high = asked_le (head_number room 0) 256 h λ f. simp (f, and-false);
+    T_low = asked_le 1 (head_number room 1) h λ f. simp (f, and-false);
+    T_high = asked_le (head_number room 1) 2048 h λ f. simp (f, and-false);
     readings = asked_le (head_number room 2) (head_number room 0) h λ f. simp (f, and-false);
     tokens = asked_le (head_number room 3) (head_number room 1) h λ f. simp (f, and-false);
     book = asked_le (head_number room 4) 8192 h λ f. simp (f, and-false);
@@ -124,10 +124,10 @@ head_fits_lem room = (
   },
   λ h.
       simp (
-        le-leb _ _ h.E-low,
-        le-leb _ _ h.E-high,
-        le-leb _ _ h.T-low,
-        le-leb _ _ h.T-high,
+        le-leb _ _ h.E_low,
+        le-leb _ _ h.E_high,
+        le-leb _ _ h.T_low,
+        le-leb _ _ h.T_high,
         le-leb _ _ h.readings,
         le-leb _ _ h.tokens,
         le-leb _ _ h.book,
@@ -179,28 +179,28 @@ module _ (room : List ℕ) where
   pub count_at : (i : ℕ) → i < 32 → get_or (part room 8656 32) i 0 ≡ get_or room (8656 + i) 0
   count_at i h = get_or-take 32 (drop 8656 room) i 0 h ∙ get_or-drop 8656 room i 0
 
-  pub two-of : (a i : ℕ) → i < 32 → uint 2 (part room a 64) (i * 2) ≡ uint 2 room (a + i * 2)
-  two-of a i h =
+  pub two_of : (a i : ℕ) → i < 32 → uint 2 (part room a 64) (i * 2) ≡ uint 2 room (a + i * 2)
+  two_of a i h =
       uint_ext 2 (part room a 64) (i * 2) (drop a room) (i * 2) (λ k l. get_or-take 64 (drop a room) (i * 2 + k) 0 (omega arith)) ∙ uint-drop 2 a room (i * 2)
 
   module _ {rules tokens conditions : ℕ} (few : rules ≤ 32) where
-    tables-rules : Tables room rules tokens conditions → ((i : ℕ) → i < rules → RuleFits room tokens i) × (sum (take rules (part room 8656 32)) ≡ conditions)
-    tables-rules h = (
+    tables_rules : Tables room rules tokens conditions → ((i : ℕ) → i < rules → RuleFits room tokens i) × (sum (take rules (part room 8656 32)) ≡ conditions)
+    tables_rules h = (
       λ i l. record {
         low = rw (count_at i (omega arith)) at (h.counts i l).0;
         high = rw (count_at i (omega arith)) at (h.counts i l).1;
-        ends = rw (two-of 8688 i (omega arith)) at (h.ends i l);
-        completes = rw (two-of 8752 i (omega arith)) at (h.completes i l);
+        ends = rw (two_of 8688 i (omega arith)) at (h.ends i l);
+        completes = rw (two_of 8752 i (omega arith)) at (h.completes i l);
       },
       h.total,
     )
 
-    rules-tables : ((i : ℕ) → i < rules → RuleFits room tokens i) → sum (take rules (part room 8656 32)) ≡ conditions → Tables room rules tokens conditions
-    rules-tables fits total = record {
+    rules_tables : ((i : ℕ) → i < rules → RuleFits room tokens i) → sum (take rules (part room 8656 32)) ≡ conditions → Tables room rules tokens conditions
+    rules_tables fits total = record {
       counts = λ i l. rw (count_at i (omega arith)) ((fits i l).low, (fits i l).high);
       total = total;
-      ends = λ i l. rw (two-of 8688 i (omega arith)) (fits i l).ends;
-      completes = λ i l. rw (two-of 8752 i (omega arith)) (fits i l).completes;
+      ends = λ i l. rw (two_of 8688 i (omega arith)) (fits i l).ends;
+      completes = λ i l. rw (two_of 8752 i (omega arith)) (fits i l).completes;
     }
 
   module _ (large : 18288 ≤ length room) where
@@ -211,11 +211,11 @@ module _ (room : List ℕ) where
     pub total-more : (i : ℕ) → i < 32 → sum (take (i + 1) (part room 8656 32)) ≡ sum (take i (part room 8656 32)) + get_or room (8656 + i) 0
     total-more i h = omega (arith, sum-take (part room 8656 32) i (omega (arith, counts-there)), count_at i h)
 
-    tables-fit : head_number room 5 ≤ 32 → (tables_fit room ≡ true) ↔ Tables room (head_number room 5) (head_number room 3) (head_number room 6)
+    tables_fit_lem : head_number room 5 ≤ 32 → (tables_fit room ≡ true) ↔ Tables room (head_number room 5) (head_number room 3) (head_number room 6)
     unfolding tables_fit
-    tables-fit few =
+    tables_fit_lem few =
         let total = eqb (sum (take (head_number room 5) (part room 8656 32))) (head_number room 6) in
-        let counts = all-one_to_six (head_number room 5) (part room 8656 32) (omega (arith, counts-there)) in
+        let counts = all_one_to_six_lem (head_number room 5) (part room 8656 32) (omega (arith, counts-there)) in
         let ends = all-at-most (head_number room 5) (head_number room 3) (part room 8688 64) in
         let completes = all-at-most (head_number room 5) (head_number room 3) (part room 8752 64) in (
           λ h. record {
@@ -228,34 +228,34 @@ module _ (room : List ℕ) where
         )
 
     -- rule by rule, by the numbers as they are read
-    pub tables-read : {rules tokens conditions : ℕ} → rules ≡ uint 2 room 10 → tokens ≡ uint 2 room 6 → conditions ≡ uint 2 room 12 → rules ≤ 32
+    pub tables_read : {rules tokens conditions : ℕ} → rules ≡ uint 2 room 10 → tokens ≡ uint 2 room 6 → conditions ≡ uint 2 room 12 → rules ≤ 32
         → (tables_fit room ≡ true) ↔ (((i : ℕ) → i < rules → RuleFits room tokens i) × (sum (take rules (part room 8656 32)) ≡ conditions))
-    tables-read {rules} {tokens} {conditions} r t c few =
+    tables_read {rules} {tokens} {conditions} r t c few =
         let r' : rules ≡ head_number room 5 = r ∙ sym (head_number-at room 5 (omega arith)) in
         let t' : tokens ≡ head_number room 3 = t ∙ sym (head_number-at room 3 (omega arith)) in
         let c' : conditions ≡ head_number room 6 = c ∙ sym (head_number-at room 6 (omega arith)) in
-        let fit : (tables_fit room ≡ true) ↔ Tables room rules tokens conditions = rw (r', t', c') (tables-fit (omega arith)) in
-        (λ h. tables-rules few (fit.0 h), λ h. fit.1 (rules-tables few h.0 h.1))
+        let fit : (tables_fit room ≡ true) ↔ Tables room rules tokens conditions = rw (r', t', c') (tables_fit_lem (omega arith)) in
+        (λ h. tables_rules few (fit.0 h), λ h. fit.1 (rules_tables few h.0 h.1))
 
     -- the verdict: where not every rule fits, and where every one does, so that it is left to what their conditions add up to
     module _ {rules tokens : ℕ} (r : rules ≡ uint 2 room 10) (t : tokens ≡ uint 2 room 6) (few : rules ≤ 32) where
-      pub some-unfit : (((i : ℕ) → i < rules → RuleFits room tokens i) → ⊥) → tables_fit room ≡ false
-      some-unfit outside = eq-false_of_not-eq-true λ h. outside ((tables-read r t refl few).0 h).0
+      pub some_unfit : (((i : ℕ) → i < rules → RuleFits room tokens i) → ⊥) → tables_fit room ≡ false
+      some_unfit outside = eq-false_of_not-eq-true λ h. outside ((tables_read r t refl few).0 h).0
 
       pub all_fit : {conditions total : ℕ} → conditions ≡ uint 2 room 12 → ((i : ℕ) → i < rules → RuleFits room tokens i)
           → total ≡ sum (take rules (part room 8656 32)) → eqb total conditions ≡ tables_fit room
       all_fit c fits total =
-          let read = tables-read r t c few in
+          let read = tables_read r t c few in
           agreed _ _ (λ h. read.1 (fits, sym total ∙ eqb-true _ _ h), λ h. eq-eqb _ _ (total ∙ (read.0 h).1))
 
 -- ---- a room that is not broken
 
 pub record Whole (room : List ℕ) : Type 0 where
   pub large : 18288 + limit room * 2 ≤ length room
-  pub E-low : 1 ≤ head_number room 0
-  pub E-high : head_number room 0 ≤ 256
-  pub T-low : 1 ≤ head_number room 1
-  pub T-high : head_number room 1 ≤ 2048
+  pub E_low : 1 ≤ head_number room 0
+  pub E_high : head_number room 0 ≤ 256
+  pub T_low : 1 ≤ head_number room 1
+  pub T_high : head_number room 1 ≤ 2048
   pub readings : head_number room 2 ≤ head_number room 0
   pub tokens : head_number room 3 ≤ head_number room 1
   pub book : head_number room 4 ≤ 8192
@@ -268,9 +268,9 @@ pub record Whole (room : List ℕ) : Type 0 where
   pub completes : (i : ℕ) → i < head_number room 5 → uint 2 (part room 8752 64) (i * 2) ≤ head_number room 3
 
 module _ (room : List ℕ) where
-  pub whole-not-broken : Whole room → broken room ≡ false
+  pub whole_not_broken : Whole room → broken room ≡ false
   unfolding broken
-  whole-not-broken w =
+  whole_not_broken w =
       let tables : Tables room (head_number room 5) (head_number room 3) (head_number room 6) = record {
         counts = w.counts;
         total = w.total;
@@ -281,24 +281,24 @@ module _ (room : List ℕ) where
         le-ltb (length room) 16 (omega arith),
         (head_fits_lem room).1 (omega arith),
         le-ltb _ _ w.large,
-        (tables-fit room (omega arith) w.rules).1 tables,
+        (tables_fit_lem room (omega arith) w.rules).1 tables,
       )
 
-  pub not-broken-whole : broken room ≡ false → Whole room
+  pub not_broken-whole : broken room ≡ false → Whole room
   unfolding broken
-  not-broken-whole h =
+  not_broken-whole h =
       let whole : not (broken room) ≡ true = ap not h in
       let large : 18288 + limit room * 2 ≤ length room =
       asked_le (18288 + limit room * 2) (length room) whole λ f. simp (lt-ltb (length room) (18288 + limit room * 2) (leb-false _ _ f), or-true) in
       let head : Head (head_number room) = (head_fits_lem room).0 (asked (head_fits room) whole λ f. simp (f, or-true)) in
       let tables : Tables room (head_number room 5) (head_number room 3) (head_number room 6) =
-      (tables-fit room (omega arith) head.rules).0 (asked (tables_fit room) whole λ f. simp (f, or-true)) in
+      (tables_fit_lem room (omega arith) head.rules).0 (asked (tables_fit room) whole λ f. simp (f, or-true)) in
       record {
         large = large;
-        E-low = head.E-low;
-        E-high = head.E-high;
-        T-low = head.T-low;
-        T-high = head.T-high;
+        E_low = head.E_low;
+        E_high = head.E_high;
+        T_low = head.T_low;
+        T_high = head.T_high;
         readings = head.readings;
         tokens = head.tokens;
         book = head.book;

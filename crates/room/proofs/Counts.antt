@@ -76,9 +76,9 @@ module _ (counts : List ℕ) (rules : ℕ) where
         let nothing = (so (rules + n) (omega arith)).1 (omega arith) in
         rw e (omega (arith, sum-take counts (rules + n) (omega arith), sum-behind n (omega arith) so))
 
-    pub counts-right : {total : ℕ} → rules ≤ 32 → Counted counts rules 32 0 total
+    pub counts_right : {total : ℕ} → rules ≤ 32 → Counted counts rules 32 0 total
         → ((i : ℕ) → i < rules → (1 ≤ get_or counts i 0) × (get_or counts i 0 ≤ 6)) × (sum (take rules counts) ≡ total)
-    counts-right few counted =
+    counts_right few counted =
         let so = counted.1.1 refl in
         let whole : rules + (32 - rules) ≡ 32 = omega arith in (
           λ i l. let p = so.1 i (omega arith) in (p.1.0 l, p.0),

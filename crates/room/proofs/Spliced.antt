@@ -8,14 +8,14 @@ use borrow.Author.Count.{below_more}
 use lib.ListN.{length, take, drop, get_or, set}
 use lib.Seq.{length-take-le, take-suc, drop-length, get_or-set_same, get_or-set_other}
 use Rattle.numbers.specs.Spliced.{spliced}
-use Rattle.numbers.proofs.Spliced.{spliced-front, set-spliced, spliced-twice, length-spliced}
+use Rattle.numbers.proofs.Spliced.{spliced_front, set-spliced, spliced_twice, length-spliced}
 
 module _ {A : Type 0} where
   pub set-behind : (xs : List A) (a : ℕ) (ys : List A) (i : ℕ) (v : A) → a + length ys ≡ i → i < length xs
       → set (spliced xs a ys) i v ≡ spliced xs a (ys ++ v ∷ [])
   set-behind xs a ys i v e h =
       set-spliced (spliced xs a ys) i v (omega (arith, length-spliced xs a ys (omega arith)))
-      ∙ spliced-twice xs a ys (omega arith) i (v ∷ []) (sym e)
+      ∙ spliced_twice xs a ys (omega arith) i (v ∷ []) (sym e)
 
   -- one more of `from`
   pub set-take-behind : (xs : List A) (a : ℕ) (from : List A) (i : ℕ) (d : A) → a + i < length xs → i < length from
@@ -26,7 +26,7 @@ module _ {A : Type 0} where
 
   pub spliced-whole : (xs ys : List A) → length ys ≡ length xs → spliced xs 0 ys ≡ ys
   spliced-whole xs ys e =
-      spliced-front xs ys
+      spliced_front xs ys
       ∙ ap (λ (k : ℕ). ys ++ drop k xs) e
       ∙ ap (λ (l : List A). ys ++ l) (drop-length xs)
       ∙ append-nil ys

@@ -10,9 +10,9 @@ use lib.ListN.{length, drop, get_or, set}
 use lib.Seq.{get_or-take, get_or-drop}
 use Rattle.numbers.specs.BigEndian.{uint, bytes}
 use Rattle.numbers.specs.Spliced.{spliced}
-use Rattle.numbers.proofs.Spliced.{sets-spliced}
+use Rattle.numbers.proofs.Spliced.{sets_spliced}
 use Rattle.room.specs.Parts.{part}
-use Rattle.room.proofs.BrokenLaws.{two-of}
+use Rattle.room.proofs.BrokenLaws.{two_of}
 
 -- number k of a table, its bytes the wrong way round
 abbrev pub turned_at : List ℕ → ℕ → ℕ
@@ -32,7 +32,7 @@ turned_right table ys i byte so h = rw add-zero (omega (arith, so i h, byte (i *
 pub turned_two : (room ys : List ℕ) (a i : ℕ) → ((k : ℕ) → get_or room k 0 < 256) → Turned ys (part room a 64) 32 → i < 32
     → get_or ys i 0 % 256 * 256 + get_or ys i 0 / 256 ≡ uint 2 room (a + i * 2)
 turned_two room ys a i byte so h =
-    turned_right (part room a 64) ys i (λ k l. rw (get_or-take 64 (drop a room) k 0 l, get_or-drop) (byte (a + k))) so h ∙ two-of room a i h
+    turned_right (part room a 64) ys i (λ k l. rw (get_or-take 64 (drop a room) k 0 l, get_or-drop) (byte (a + k))) so h ∙ two_of room a i h
 
 -- the bytes of a number turned, the last first: the number in two bytes
 pub turned_put : (l : List ℕ) (a x y : ℕ) → a + 2 ≤ length l → x < 65536 → y ≡ x % 256 * 256 + x / 256
@@ -41,4 +41,4 @@ unfolding bytes
 turned_put l a x y h small e =
     let first : y % 256 ≡ x / 256 % 256 = omega arith in
     let second : y / 256 ≡ x % 256 = omega arith in
-    rw (first, second, add-one) (sets-spliced l a (x / 256 % 256 ∷ x % 256 ∷ []) (omega arith))
+    rw (first, second, add-one) (sets_spliced l a (x / 256 % 256 ∷ x % 256 ∷ []) (omega arith))

@@ -9,7 +9,7 @@ use lib.Seq.{length-take-le, take-suc, drop_at}
 use Rattle.numbers.specs.BigEndian.{uint, bytes}
 use Rattle.numbers.proofs.BigEndian.{length-bytes, uint-bytes, uint-drop}
 use Rattle.numbers.specs.Spliced.{spliced}
-use Rattle.numbers.proofs.Spliced.{spliced-twice}
+use Rattle.numbers.proofs.Spliced.{spliced_twice}
 use Rattle.room.specs.Parts.{twos, twos_bytes}
 
 -- ---- written
@@ -31,7 +31,7 @@ twos_bytes-behind part xs i h e =
     let before : length (twos_bytes (take i xs)) ≡ i * 2 = omega (arith, length-twos_bytes (take i xs), length-take-le i xs (omega arith)) in
     let more : twos_bytes (take i xs) ++ bytes 2 (get_or xs i 0) ≡ twos_bytes (take (i + 1) xs) =
     sym (rw (add-one, take-suc xs i 0) (twos_bytes_snoc (take i xs) (get_or xs i 0))) in
-    spliced-twice part 0 (twos_bytes (take i xs)) (omega arith) (i * 2) (bytes 2 (get_or xs i 0)) (omega arith) ∙ ap (spliced part 0) more
+    spliced_twice part 0 (twos_bytes (take i xs)) (omega arith) (i * 2) (bytes 2 (get_or xs i 0)) (omega arith) ∙ ap (spliced part 0) more
 
 -- ---- read back
 

@@ -8,7 +8,7 @@ use lib.ListN.{length, take, get_or, set, replicate, length-append}
 use lib.Seq.{drop_at, length-take-le, take_all, take-length}
 use Rattle.numbers.specs.BigEndian.{uint, bytes}
 use Rattle.numbers.specs.Spliced.{spliced}
-use Rattle.numbers.proofs.BigEndian.{length-bytes, uint-bytes, uint-drop, uint-spliced-before, uint-spliced-in, uint-spliced-after}
+use Rattle.numbers.proofs.BigEndian.{length-bytes, uint-bytes, uint-drop, uint-spliced-before, uint-spliced_in, uint-spliced-after}
 use Rattle.reading.specs.declared.Reading.{Reading}
 use Rattle.reading.specs.Reading.{reading_bytes}
 use Rattle.room.specs.Parts.{part, put, cut, below, twos_bytes}
@@ -138,11 +138,11 @@ module _ (h : List ℕ) (n t : ℕ) (long : length h ≡ 16) where
   length-counts = omega (arith, length-append (bytes 2 n) (bytes 2 t), length-bytes 2 n, length-bytes 2 t)
 
   pub counted-readings : n < 65536 → uint 2 anew 4 ≡ n
-  counted-readings small = uint-spliced-in h 4 (bytes 2 n ++ bytes 2 t) (omega arith) 2 0 (omega (arith, length-counts)) ∙ uint-bytes 2 n (bytes 2 t) small
+  counted-readings small = uint-spliced_in h 4 (bytes 2 n ++ bytes 2 t) (omega arith) 2 0 (omega (arith, length-counts)) ∙ uint-bytes 2 n (bytes 2 t) small
 
   pub counted-tokens : t < 65536 → uint 2 anew 6 ≡ t
   counted-tokens small =
-      uint-spliced-in h 4 (bytes 2 n ++ bytes 2 t) (omega arith) 2 2 (omega (arith, length-counts))
+      uint-spliced_in h 4 (bytes 2 n ++ bytes 2 t) (omega arith) 2 2 (omega (arith, length-counts))
       ∙ sym (uint-drop 2 2 (bytes 2 n ++ bytes 2 t) 0)
       ∙ ap (λ (b : List ℕ). uint 2 b 0) (drop_at (bytes 2 n) (bytes 2 t) 2 (length-bytes 2 n) ∙ sym (append-nil (bytes 2 t)))
       ∙ uint-bytes 2 t [] small

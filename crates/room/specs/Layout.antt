@@ -28,38 +28,38 @@ module _ (ps : List (List ℕ)) where
   abbrev pub head : List ℕ
   head = get_or ps 0 []
 
-  abbrev pub bookPart : List ℕ
-  bookPart = get_or ps 1 []
+  abbrev pub book_part : List ℕ
+  book_part = get_or ps 1 []
 
-  abbrev pub conditionPlacesPart : List ℕ
-  conditionPlacesPart = get_or ps 2 []
+  abbrev pub condition_places_part : List ℕ
+  condition_places_part = get_or ps 2 []
 
-  abbrev pub rulePlacesPart : List ℕ
-  rulePlacesPart = get_or ps 3 []
+  abbrev pub rule_places_part : List ℕ
+  rule_places_part = get_or ps 3 []
 
-  abbrev pub ruleConditionsPart : List ℕ
-  ruleConditionsPart = get_or ps 4 []
+  abbrev pub rule_conditions_part : List ℕ
+  rule_conditions_part = get_or ps 4 []
 
-  abbrev pub endsPart : List ℕ
-  endsPart = get_or ps 5 []
+  abbrev pub ends_part : List ℕ
+  ends_part = get_or ps 5 []
 
-  abbrev pub completesPart : List ℕ
-  completesPart = get_or ps 6 []
+  abbrev pub completes_part : List ℕ
+  completes_part = get_or ps 6 []
 
-  abbrev pub orderPart : List ℕ
-  orderPart = get_or ps 7 []
+  abbrev pub order_part : List ℕ
+  order_part = get_or ps 7 []
 
-  abbrev pub slotsPart : List ℕ
-  slotsPart = get_or ps 8 []
+  abbrev pub slots_part : List ℕ
+  slots_part = get_or ps 8 []
 
-  abbrev pub rowsPart : List ℕ
-  rowsPart = get_or ps 9 []
+  abbrev pub rows_part : List ℕ
+  rows_part = get_or ps 9 []
 
-  abbrev pub nodesPart : List ℕ
-  nodesPart = get_or ps 10 []
+  abbrev pub nodes_part : List ℕ
+  nodes_part = get_or ps 10 []
 
-  abbrev pub lastsPart : List ℕ
-  lastsPart = get_or ps 11 []
+  abbrev pub lasts_part : List ℕ
+  lasts_part = get_or ps 11 []
 
-  abbrev pub restPart : List ℕ
-  restPart = get_or ps 12 []
+  abbrev pub rest_part : List ℕ
+  rest_part = get_or ps 12 []

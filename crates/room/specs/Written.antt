@@ -5,24 +5,24 @@ use Rattle.numbers.specs.Spliced.{spliced}
 use Rattle.reading.specs.declared.Reading.{Reading}
 use Rattle.reading.specs.Reading.{reading_bytes}
 use Rattle.room.specs.Parts.{below, twos_bytes}
-use Rattle.room.specs.Layout.{head, bookPart, conditionPlacesPart, rulePlacesPart, ruleConditionsPart, orderPart, slotsPart, rowsPart, nodesPart, lastsPart, restPart}
+use Rattle.room.specs.Layout.{head, book_part, condition_places_part, rule_places_part, rule_conditions_part, order_part, slots_part, rows_part, nodes_part, lasts_part, rest_part}
 
 -- the parts of a room just opened, given the parts before: the book and its index, every slot free, nothing else; what holds nothing stays as it was
 unfoldable pub opened : ℕ → ℕ → List ℕ → ℕ → ℕ → List ℕ → List ℕ → List ℕ → List (List ℕ) → List (List ℕ)
 opened E T book rules conditions rule_places rule_conditions condition_places ps =
     twos_bytes (E ∷ T ∷ 0 ∷ 0 ∷ length book ∷ rules ∷ conditions ∷ 0 ∷ [])
-    ∷ spliced (bookPart ps) 0 book
+    ∷ spliced (book_part ps) 0 book
     ∷ twos_bytes condition_places
     ∷ twos_bytes rule_places
     ∷ rule_conditions
     ∷ replicate 64 0
     ∷ replicate 64 0
     ∷ below 256
-    ∷ slotsPart ps
-    ∷ rowsPart ps
-    ∷ nodesPart ps
-    ∷ lastsPart ps
-    ∷ restPart ps
+    ∷ slots_part ps
+    ∷ rows_part ps
+    ∷ nodes_part ps
+    ∷ lasts_part ps
+    ∷ rest_part ps
     ∷ []
 
 -- what an opening asks of what it is lent
@@ -47,44 +47,44 @@ pub record Aside : Type 0 where
 unfoldable pub stepped : Aside → List ℕ → List ℕ → List (List ℕ) → List (List ℕ)
 stepped s slots rows ps =
     spliced (head ps) 4 (bytes 2 s.readings ++ bytes 2 s.tokens)
-    ∷ bookPart ps
-    ∷ conditionPlacesPart ps
-    ∷ rulePlacesPart ps
-    ∷ ruleConditionsPart ps
+    ∷ book_part ps
+    ∷ condition_places_part ps
+    ∷ rule_places_part ps
+    ∷ rule_conditions_part ps
     ∷ twos_bytes s.ends
     ∷ twos_bytes s.completes
     ∷ s.order
     ∷ slots
     ∷ rows
-    ∷ spliced (nodesPart ps) 0 (take s.tokens s.nodes)
-    ∷ spliced (lastsPart ps) 0 (take s.tokens s.lasts)
-    ∷ restPart ps
+    ∷ spliced (nodes_part ps) 0 (take s.tokens s.nodes)
+    ∷ spliced (lasts_part ps) 0 (take s.tokens s.lasts)
+    ∷ rest_part ps
     ∷ []
 
 -- the parts of a room whose tables of rules, readings present and tokens are counted anew
 unfoldable pub counted : ℕ → ℕ → List ℕ → List ℕ → List (List ℕ) → List (List ℕ)
 counted readings tokens ends completes ps =
     spliced (head ps) 4 (bytes 2 readings ++ bytes 2 tokens)
-    ∷ bookPart ps
-    ∷ conditionPlacesPart ps
-    ∷ rulePlacesPart ps
-    ∷ ruleConditionsPart ps
+    ∷ book_part ps
+    ∷ condition_places_part ps
+    ∷ rule_places_part ps
+    ∷ rule_conditions_part ps
     ∷ twos_bytes ends
     ∷ twos_bytes completes
-    ∷ orderPart ps
-    ∷ slotsPart ps
-    ∷ rowsPart ps
-    ∷ nodesPart ps
-    ∷ lastsPart ps
-    ∷ restPart ps
+    ∷ order_part ps
+    ∷ slots_part ps
+    ∷ rows_part ps
+    ∷ nodes_part ps
+    ∷ lasts_part ps
+    ∷ rest_part ps
     ∷ []
 
 -- a reading and its row at a slot
 abbrev pub slots_with : List (List ℕ) → ℕ → Reading → List ℕ
-slots_with ps slot r = spliced (slotsPart ps) (slot * 12) (reading_bytes r)
+slots_with ps slot r = spliced (slots_part ps) (slot * 12) (reading_bytes r)
 
 abbrev pub rows_with : List (List ℕ) → ℕ → List ℕ → List ℕ
-rows_with ps slot row = spliced (rowsPart ps) (slot * 24) row
+rows_with ps slot row = spliced (rows_part ps) (slot * 24) row
 
 -- what a step asks of what it is lent, in a room of T tokens
 pub record Stepping (room : List ℕ) (T : ℕ) (s : Aside) : Type 0 where

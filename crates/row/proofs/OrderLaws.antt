@@ -21,7 +21,7 @@ use Rattle.room.proofs.Order.{times-append}
 use Rattle.row.specs.Row.{leading, lesser, moved_in, moved_out}
 use Rattle.weave.proofs.Grown.{le_or_lt}
 use Rattle.room.proofs.Spliced.{set-behind, spliced-whole}
-use Rattle.weave.proofs.SplicedLaws.{length-stretch, stretch-up-to}
+use Rattle.weave.proofs.SplicedLaws.{length_stretch, stretch_up_to}
 
 -- ---- lists
 
@@ -108,39 +108,39 @@ module _ (slots : List ℕ) (w : Reading) (order : List ℕ) (n : ℕ) (long : n
   length-first : length (take n order) ≡ n
   length-first = length-take-le n order long
 
-  pub between-all : Between slots w order n 0 n
-  between-all = record {
+  pub between_all : Between slots w order n 0 n
+  between_all = record {
     rises = omega arith;
     within = omega arith;
     ranked = λ up. (omega arith, omega (arith, length-first, leading-within (lesser slots w) (take n order)));
   }
 
   module _ (low high : ℕ) (b : Between slots w order n low high) where
-    pub between-met : high ≤ low → (low ≤ n) × (Sorted (Less is_less) (map (reading_at slots) (take n order)) → low ≡ rank slots w (take n order))
-    between-met met = (omega arith, λ up. omega (arith, (b.ranked up).0, (b.ranked up).1))
+    pub between_met : high ≤ low → (low ≤ n) × (Sorted (Less is_less) (map (reading_at slots) (take n order)) → low ≡ rank slots w (take n order))
+    between_met met = (omega arith, λ up. omega (arith, (b.ranked up).0, (b.ranked up).1))
 
     module _ (mid : ℕ) (below : mid < high) where
-      mid-within : mid < n
-      mid-within = omega arith
+      mid_within : mid < n
+      mid_within = omega arith
 
-      mid-first : mid < length (take n order)
-      mid-first = omega (arith, length-first)
+      mid_first : mid < length (take n order)
+      mid_first = omega (arith, length-first)
 
-      mid-is : get_or (take n order) mid 0 ≡ get_or order mid 0
-      mid-is = get_or-take n order mid 0 mid-within
+      mid_is : get_or (take n order) mid 0 ≡ get_or order mid 0
+      mid_is = get_or-take n order mid 0 mid_within
 
-      pub between-above : lesser slots w (get_or order mid 0) ≡ true → Between slots w order n (mid + 1) high
-      between-above e = record {
+      pub between_above : lesser slots w (get_or order mid 0) ≡ true → Between slots w order n (mid + 1) high
+      between_above e = record {
         rises = omega arith;
         within = omega arith;
-        ranked = λ up. (omega (arith, leading-above slots w (take n order) mid mid-first up (rw mid-is e)), (b.ranked up).1);
+        ranked = λ up. (omega (arith, leading-above slots w (take n order) mid mid_first up (rw mid_is e)), (b.ranked up).1);
       }
 
-      pub between-below : low ≤ mid → lesser slots w (get_or order mid 0) ≡ false → Between slots w order n low mid
-      between-below above e = record {
+      pub between_below : low ≤ mid → lesser slots w (get_or order mid 0) ≡ false → Between slots w order n low mid
+      between_below above e = record {
         rises = above;
         within = omega arith;
-        ranked = λ up. ((b.ranked up).0, leading-below slots w (take n order) mid mid-first (rw mid-is e));
+        ranked = λ up. ((b.ranked up).0, leading-below slots w (take n order) mid mid_first (rw mid_is e));
       }
 
 -- ---- an order written anew, and one written in place
@@ -154,14 +154,14 @@ moved_in-set l xs a b p n xs-long long low high ea eb =
     let m : List ℕ = take (n - p) (drop p l) in
     let all : take 256 l ≡ l = take_all 256 l (omega arith) in
     let whole : a ≡ l = ea ∙ ap (spliced xs 0) all ∙ spliced-whole xs l (omega arith) in
-    let many = length-stretch l p (n - p) (omega arith) in
+    let many = length_stretch l p (n - p) (omega arith) in
     let end : p + 1 + length m ≡ n + 1 = omega arith in
     let front : take (p + 1) l ≡ take p l ++ get_or l p 0 ∷ [] = rw (add-one p, take-suc l p 0 (omega arith)) in
     let is : b ≡ take p l ++ get_or l p 0 ∷ (m ++ drop (n + 1) l) =
     eb ∙ ap (λ (x : List ℕ). spliced x (p + 1) m) whole ∙ rw (end, front) (append_assoc (take p l) (get_or l p 0 ∷ []) (m ++ drop (n + 1) l)) in
     ap (λ (x : List ℕ). set x p v) is
     ∙ set_at (take p l) (get_or l p 0) (m ++ drop (n + 1) l) v p (length-take-le p l (omega arith))
-    ∙ rw (stretch-up-to l p n low (omega arith))
+    ∙ rw (stretch_up_to l p n low (omega arith))
 
 -- the order as `take_from` leaves it: the slots behind p moved down, and then the slot of p set behind them
 pub moved_out-set : (l l1 : List ℕ) (p n : ℕ) → p < n → n ≤ length l → l1 ≡ spliced l p (take (n - 1 - p) (drop (p + 1) l)) → set l1 (n - 1) (get_or l p 0) ≡ moved_out l p n
@@ -170,8 +170,8 @@ moved_out-set l l1 p n low high e =
     let v : ℕ = get_or l p 0 in
     let m : List ℕ = take (n - 1 - p) (drop (p + 1) l) in
     let count : n - 1 - p ≡ n - (p + 1) = omega arith in
-    let these : m ≡ drop (p + 1) (take n l) = ap (λ (k : ℕ). take k (drop (p + 1) l)) count ∙ stretch-up-to l (p + 1) n (omega arith) (omega arith) in
-    let many = length-stretch l (p + 1) (n - 1 - p) (omega arith) in
+    let these : m ≡ drop (p + 1) (take n l) = ap (λ (k : ℕ). take k (drop (p + 1) l)) count ∙ stretch_up_to l (p + 1) n (omega arith) (omega arith) in
+    let many = length_stretch l (p + 1) (n - 1 - p) (omega arith) in
     let end : p + length (m ++ v ∷ []) ≡ n = omega (arith, length-append m (v ∷ [])) in
     ap (λ (x : List ℕ). set x (n - 1) v) e
     ∙ set-behind l p m (n - 1) v (omega arith) (omega arith)
@@ -180,16 +180,16 @@ moved_out-set l l1 p n low high e =
 -- ---- moved_in
 
 module _ (l : List ℕ) (p n : ℕ) (low : p ≤ n) (high : n < length l) where
-  pub take-movedIn : take (n + 1) (moved_in l p n) ≡ take p l ++ get_or l n 0 ∷ drop p (take n l)
-  take-movedIn =
+  pub take-moved_in : take (n + 1) (moved_in l p n) ≡ take p l ++ get_or l n 0 ∷ drop p (take n l)
+  take-moved_in =
       let x = get_or l n 0 in
       let s = drop p (take n l) in
       let k : length (take p l ++ x ∷ s) ≡ n + 1 =
       omega (arith, length-append (take p l) (x ∷ s), length-take-le p l (omega arith), length-slice p n l (omega arith)) in
       ap (take (n + 1)) (sym (append_assoc (take p l) (x ∷ s) (drop (n + 1) l))) ∙ take_at (take p l ++ x ∷ s) (drop (n + 1) l) (n + 1) k
 
-  pub times-movedIn : (s : ℕ) → times s (moved_in l p n) ≡ times s l
-  times-movedIn s =
+  pub times-moved_in : (s : ℕ) → times s (moved_in l p n) ≡ times s l
+  times-moved_in s =
       let x = get_or l n 0 in
       let m = drop p (take n l) in
       let r = drop (n + 1) l in
@@ -203,22 +203,22 @@ module _ (l : List ℕ) (p n : ℕ) (low : p ≤ n) (high : n < length l) where
       let i : times s l ≡ times s (take n l ++ x ∷ r) = ap (times s) (split_at l n 0 high) ∙ rw add-one in
       omega (arith, times-append s (take n l) (x ∷ r))
 
-  pub once-movedIn : Once l → Once (moved_in l p n)
-  once-movedIn o s = omega (arith, times-movedIn s, o s)
+  pub once-moved_in : Once l → Once (moved_in l p n)
+  once-moved_in o s = omega (arith, times-moved_in s, o s)
 
 -- ---- moved_out
 
 module _ (l : List ℕ) (p n : ℕ) (low : p < n) (high : n ≤ length l) where
-  pub take-movedOut : take (n - 1) (moved_out l p n) ≡ take p l ++ drop (p + 1) (take n l)
-  take-movedOut =
+  pub take-moved_out : take (n - 1) (moved_out l p n) ≡ take p l ++ drop (p + 1) (take n l)
+  take-moved_out =
       let s = drop (p + 1) (take n l) in
       let r = get_or l p 0 ∷ drop n l in
       let k : length (take p l ++ s) ≡ n - 1 =
       omega (arith, length-append (take p l) s, length-take-le p l (omega arith), length-slice (p + 1) n l high) in
       ap (take (n - 1)) (sym (append_assoc (take p l) s r)) ∙ take_at (take p l ++ s) r (n - 1) k
 
-  pub times-movedOut : (s : ℕ) → times s (moved_out l p n) ≡ times s l
-  times-movedOut s =
+  pub times-moved_out : (s : ℕ) → times s (moved_out l p n) ≡ times s l
+  times-moved_out s =
       let x = get_or l p 0 in
       let m = drop (p + 1) (take n l) in
       let r = drop n l in
@@ -234,5 +234,5 @@ module _ (l : List ℕ) (p n : ℕ) (low : p < n) (high : n ≤ length l) where
       let i = ap (times s) (take-append-drop n l) in
       omega arith
 
-  pub once-movedOut : Once l → Once (moved_out l p n)
-  once-movedOut o s = omega (arith, times-movedOut s, o s)
+  pub once-moved_out : Once l → Once (moved_out l p n)
+  once-moved_out o s = omega (arith, times-moved_out s, o s)

@@ -15,8 +15,8 @@ unfolding sum
 sum-append [] b = omega arith
 sum-append (x ∷ a) b = omega (arith, sum-append a b)
 
-pub sum-take_le : (ks : List ℕ) (r n : ℕ) → r ≤ n → sum (take r ks) ≤ sum (take n ks)
-sum-take_le ks r n h =
+pub sum_take_le : (ks : List ℕ) (r n : ℕ) → r ≤ n → sum (take r ks) ≤ sum (take n ks)
+sum_take_le ks r n h =
     let a : sum (take r ks) + sum (drop r (take n ks)) ≡ sum (take n ks) =
     ap (λ (l : List ℕ). sum l + sum (drop r (take n ks))) (sym (take-take r n ks h))
     ∙ sym (sum-append (take r (take n ks)) (drop r (take n ks)))
@@ -25,7 +25,7 @@ sum-take_le ks r n h =
 
 -- one more of them is no more than all
 pub sum-take-fits : (ks : List ℕ) (r n : ℕ) → r < n → n ≤ length ks → sum (take r ks) + get_or ks r 0 ≤ sum (take n ks)
-sum-take-fits ks r n h long = omega (arith, sum-take ks r (omega arith), sum-take_le ks (r + 1) n (omega arith))
+sum-take-fits ks r n h long = omega (arith, sum-take ks r (omega arith), sum_take_le ks (r + 1) n (omega arith))
 
 -- a condition has one rule: those of another are before it or behind it
 pub same-rule : (ks : List ℕ) (r q i j : ℕ) → r < length ks → q < length ks → i < get_or ks r 0 → j < get_or ks q 0 → sum (take r ks) + i ≡ sum (take q ks) + j → r ≡ q

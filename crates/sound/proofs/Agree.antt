@@ -18,7 +18,7 @@ use Rattle.matching.proofs.Laws.Alpha.{passes_all_split, get_or-memories_from}
 use Rattle.room.specs.Held.{sifted}
 use Rattle.room.specs.Parts.{below}
 use Rattle.weave.proofs.Grown.{le_or_lt}
-use Rattle.sound.proofs.Entries.{Entries, entries-left, entries-right, entries-append, map-entries}
+use Rattle.sound.proofs.Entries.{Entries, entries_left, entries_right, entries-append, map-entries}
 use Rattle.sound.proofs.Slots.{Distinct, sifted-keep, keep-sifted}
 use Rattle.sound.proofs.TokensBuilt.{Agrees}
 
@@ -39,8 +39,8 @@ length-memories (rule ∷ rules) R =
 
 module _ (os : List ℕ) (read : ℕ → Reading) (bit : ℕ → ℕ → Bool) where
   -- the memory of condition c, as readings
-  abbrev pub memoryAt : ℕ → List Reading
-  memoryAt c = map read (sifted (bit c) os)
+  abbrev pub memory_at : ℕ → List Reading
+  memory_at c = map read (sifted (bit c) os)
 
   -- the bits of the conditions of a rule say which readings pass the tests that need no other condition, the first condition being number c
   abbrev pub BitsOn : ℕ → Rule → Type 0
@@ -52,23 +52,23 @@ module _ (os : List ℕ) (read : ℕ → Reading) (bit : ℕ → ℕ → Bool) w
   Bits c (rule ∷ rules) = BitsOn c rule × Bits (c + levels rule) rules
 
   -- the memory of condition j of a rule
-  getD-memories : (rule : Rule) (j : ℕ) → j < levels rule → get_or (memories_from 0 rule.conditions (map read os)) j [] ≡ keep (alpha (tests_of rule j) j) (map read os)
+  get_or-memories : (rule : Rule) (j : ℕ) → j < levels rule → get_or (memories_from 0 rule.conditions (map read os)) j [] ≡ keep (alpha (tests_of rule j) j) (map read os)
   unfolding memory
-  getD-memories rule j h =
+  get_or-memories rule j h =
       let start : 0 + j ≡ j = omega arith in
       get_or-memories_from 0 rule.conditions (map read os) j h ∙ ap (λ (n : ℕ). keep (alpha (tests_of rule j) n) (map read os)) start
 
-  module _ (c : ℕ) (rule : Rule) (rules : List Rule) (m : Entries [] memoryAt c (memories_from 0 rule.conditions (map read os) ++ memories rules (map read os))) where
-    here : (j : ℕ) → j < levels rule → memoryAt (c + j) ≡ keep (alpha (tests_of rule j) j) (map read os)
+  module _ (c : ℕ) (rule : Rule) (rules : List Rule) (m : Entries [] memory_at c (memories_from 0 rule.conditions (map read os) ++ memories rules (map read os))) where
+    here : (j : ℕ) → j < levels rule → memory_at (c + j) ≡ keep (alpha (tests_of rule j) j) (map read os)
     here j h =
-        entries-left [] memoryAt c (memories_from 0 rule.conditions (map read os)) (memories rules (map read os)) m j (rw (length-memories_from 0 rule.conditions (map read os)) h)
-        ∙ getD-memories rule j h
+        entries_left [] memory_at c (memories_from 0 rule.conditions (map read os)) (memories rules (map read os)) m j (rw (length-memories_from 0 rule.conditions (map read os)) h)
+        ∙ get_or-memories rule j h
 
-    later : Entries [] memoryAt (c + levels rule) (memories rules (map read os))
+    later : Entries [] memory_at (c + levels rule) (memories rules (map read os))
     later =
-        rw (length-memories_from 0 rule.conditions (map read os)) at (entries-right [] memoryAt c (memories_from 0 rule.conditions (map read os)) (memories rules (map read os)) m)
+        rw (length-memories_from 0 rule.conditions (map read os)) at (entries_right [] memory_at c (memories_from 0 rule.conditions (map read os)) (memories rules (map read os)) m)
 
-  pub memories-bits : Distinct read os → (c : ℕ) (rules : List Rule) → Entries [] memoryAt c (memories rules (map read os)) → Bits c rules
+  pub memories-bits : Distinct read os → (c : ℕ) (rules : List Rule) → Entries [] memory_at c (memories rules (map read os)) → Bits c rules
   unfolding memories concat_map
   memories-bits told c [] m = tt
   memories-bits told c (rule ∷ rules) m = (
@@ -76,19 +76,19 @@ module _ (os : List ℕ) (read : ℕ → Reading) (bit : ℕ → ℕ → Bool) w
     memories-bits told (c + levels rule) rules (later c rule rules m),
   )
 
-  bits-memories : (c : ℕ) (rules : List Rule) → Bits c rules → Entries [] memoryAt c (memories rules (map read os))
+  bits-memories : (c : ℕ) (rules : List Rule) → Bits c rules → Entries [] memory_at c (memories rules (map read os))
   unfolding memories concat_map
   bits-memories c [] b = λ n h. absurd (omega arith)
   bits-memories c (rule ∷ rules) b =
-      entries-append [] memoryAt c (memories_from 0 rule.conditions (map read os)) (memories rules (map read os))
+      entries-append [] memory_at c (memories_from 0 rule.conditions (map read os)) (memories rules (map read os))
       (λ j h.
       let k : j < levels rule = rw (length-memories_from 0 rule.conditions (map read os)) at h in
-      keep-sifted read (bit (c + j)) (alpha (tests_of rule j) j) os (λ s i. b.0 j s k i) ∙ sym (getD-memories rule j k))
+      keep-sifted read (bit (c + j)) (alpha (tests_of rule j) j) os (λ s i. b.0 j s k i) ∙ sym (get_or-memories rule j k))
       (rw (length-memories_from 0 rule.conditions (map read os)) (bits-memories (c + levels rule) rules b.1))
 
   -- the memories of all conditions, as a room holds them
-  pub memories-held : (rules : List Rule) → Bits 0 rules → map memoryAt (below (condition_count rules)) ≡ memories rules (map read os)
-  memories-held rules b = rw (← length-memories rules (map read os)) (map-entries [] memoryAt (memories rules (map read os)) (bits-memories 0 rules b))
+  pub memories-held : (rules : List Rule) → Bits 0 rules → map memory_at (below (condition_count rules)) ≡ memories rules (map read os)
+  memories-held rules b = rw (← length-memories rules (map read os)) (map-entries [] memory_at (memories rules (map read os)) (bits-memories 0 rules b))
 
 -- of the slots of two lists, and of no others
 pub bits_either : (read : ℕ → Reading) (bit : ℕ → ℕ → Bool) (os a b : List ℕ) → ((s : ℕ) → Memᴰ s os → Memᴰ s a ⊎ Memᴰ s b) → (c : ℕ) (rules : List Rule)
@@ -126,12 +126,12 @@ abbrev pub pass_slot : (ℕ → Reading) → (ℕ → ℕ → Bool) → (ℕ →
 pass_slot read bit tests c t s = bit c s && joins (tests c) t (read s)
 
 module _ (os : List ℕ) (read : ℕ → Reading) (bit : ℕ → ℕ → Bool) (tests : ℕ → List Test) where
-  pub bits-agree : (c : ℕ) (rules : List Rule) → Bits os read bit c rules → Entries [] tests c (conditions_of rules) → Agrees os read (pass_slot read bit tests) c rules
+  pub bits_agree : (c : ℕ) (rules : List Rule) → Bits os read bit c rules → Entries [] tests c (conditions_of rules) → Agrees os read (pass_slot read bit tests) c rules
   unfolding conditions_of pass_of
-  bits-agree c [] b e = tt
-  bits-agree c (rule ∷ rules) b e = (
+  bits_agree c [] b e = tt
+  bits_agree c (rule ∷ rules) b e = (
     λ j t s h l i.
-        rw (b.0 j s h i, entries-left [] tests c rule.conditions (conditions_of rules) e j h)
+        rw (b.0 j s h i, entries_left [] tests c rule.conditions (conditions_of rules) e j h)
         (sym (passes_all_split (tests_of rule j) t (read s) ∙ ap (λ (n : ℕ). alpha (tests_of rule j) n (read s) && joins (tests_of rule j) t (read s)) l)),
-    bits-agree (c + levels rule) rules b.1 (entries-right [] tests c rule.conditions (conditions_of rules) e),
+    bits_agree (c + levels rule) rules b.1 (entries_right [] tests c rule.conditions (conditions_of rules) e),
   )

@@ -11,7 +11,7 @@ use Rattle.reading.specs.Reading.{is_less, is_same}
 use Rattle.matching.specs.Complaints.{complaints, involves}
 use Rattle.matching.specs.Order.{inserted, without}
 use Rattle.matching.specs.Step.{not_among}
-use Rattle.matching.proofs.Laws.Complaints.{complaints-vanish, complaints-without}
+use Rattle.matching.proofs.Laws.Complaints.{complaints_vanish, complaints-without}
 use Rattle.matching.proofs.Laws.Lists.{length-keep}
 use Rattle.matching.proofs.Laws.Orders.{without-inserted}
 use Rattle.matching.proofs.Laws.ReadingOrder.{is_same-exact}
@@ -21,7 +21,7 @@ module _ (book : List Rule) (k : Kept book) (w : Reading) where
   pub vanished : (R : List Reading)
       → length (not_among (complaints book (without is_same w R)) (complaints book R)) ≡ length (complaints book R) - length (complaints book (without is_same w R))
   vanished R =
-      omega (arith, ap length (complaints-vanish book k w R), ap length (complaints-without w R book), length-keep (involves w) (complaints book R))
+      omega (arith, ap length (complaints_vanish book k w R), ap length (complaints-without w R book), length-keep (involves w) (complaints book R))
 
   -- an addition is a removal backwards
   pub appeared : (R : List Reading) → ¬ Memᴰ w R

@@ -22,11 +22,11 @@ module _ {A : Type 0} (d : A) where
   Entries f c l = (n : ℕ) → n < length l → f (c + n) ≡ get_or l n d
 
   module _ (f : ℕ → A) (c : ℕ) (a b : List A) (h : Entries f c (a ++ b)) where
-    pub entries-left : Entries f c a
-    entries-left j l = h j (omega (arith, length-append a b)) ∙ get_or-append a b d j l
+    pub entries_left : Entries f c a
+    entries_left j l = h j (omega (arith, length-append a b)) ∙ get_or-append a b d j l
 
-    pub entries-right : Entries f (c + length a) b
-    entries-right n l =
+    pub entries_right : Entries f (c + length a) b
+    entries_right n l =
         let e : c + length a + n ≡ c + (length a + n) = omega arith in
         ap f e ∙ h (length a + n) (omega (arith, length-append a b)) ∙ get_or-append-add a b n d
 

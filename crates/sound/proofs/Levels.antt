@@ -14,13 +14,13 @@ pub levelled_all : (ks : List ℕ) → Levelled (level ks) 0 ks
 levelled_all ks n = ap (level ks) (let e : 0 + n ≡ n = omega arith in e)
 
 module _ (of : ℕ → ℕ) (c k : ℕ) (ks : List ℕ) (h : Levelled of c (k ∷ ks)) where
-  pub levelled-here : (j : ℕ) → j < k → of (c + j) ≡ 0 + j
+  pub levelled_here : (j : ℕ) → j < k → of (c + j) ≡ 0 + j
   unfolding level
-  levelled-here j l = h j ∙ rw (lt-ltb j k l) (let e : j ≡ 0 + j = omega arith in e)
+  levelled_here j l = h j ∙ rw (lt-ltb j k l) (let e : j ≡ 0 + j = omega arith in e)
 
-  pub levelled-past : Levelled of (c + k) ks
+  pub levelled_past : Levelled of (c + k) ks
   unfolding level
-  levelled-past n =
+  levelled_past n =
       let e : c + k + n ≡ c + (k + n) = omega arith in
       let d : k + n - k ≡ n = omega arith in
       ap of e ∙ h (k + n) ∙ rw (le-ltb (k + n) k (omega arith)) (ap (level ks) d)

@@ -13,7 +13,7 @@ use Rattle.room.specs.Written.{Aside}
 use Rattle.rete.specs.Rules.{Told}
 use Rattle.sound.specs.Sound.{Sound}
 use Rattle.sound.proofs.Agree.{pass_slot, Bits}
-use Rattle.sound.proofs.SoundRoom.{testsIn, countsOf}
+use Rattle.sound.proofs.SoundRoom.{tests_in, counts_of}
 
 -- the slots that will be in use
 abbrev pub slots_next : Aside → List ℕ
@@ -22,7 +22,7 @@ slots_next a = take a.readings a.order
 -- `slots` and `rows` are the readings and rows by slot that will be written; the tokens were written into the planes `ns` and `ls`, and what is
 -- told of each rule over the tables `es` and `ms`
 pub record Next (room : List ℕ) (s : Sound room) (a : Aside) (slots rows : List ℕ) (R : List Reading) (complete : ℕ) : Type 0 where
-  pub order-long : length a.order ≡ 256
+  pub order_long : length a.order ≡ 256
   pub once : Once a.order
   pub few : a.readings ≤ head_number room 0
   pub reads : map (reading_at slots) (slots_next a) ≡ R
@@ -33,5 +33,5 @@ pub record Next (room : List ℕ) (s : Sound room) (a : Aside) (slots rows : Lis
   pub ls : List ℕ
   pub es : List ℕ
   pub ms : List ℕ
-  pub told : Told (limit room) (slots_next a) (reading_at slots) (pass_slot (reading_at slots) (in_memory rows) (testsIn room)) (countsOf room s)
+  pub told : Told (limit room) (slots_next a) (reading_at slots) (pass_slot (reading_at slots) (in_memory rows) (tests_in room)) (counts_of room s)
       ns ls es ms a.tokens complete a.nodes a.lasts a.ends a.completes

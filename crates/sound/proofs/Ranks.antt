@@ -19,14 +19,14 @@ use Rattle.matching.specs.Step.{present}
 use Rattle.matching.proofs.Laws.Members.{mem_same}
 use Rattle.matching.proofs.Laws.Orders.{inserted-at}
 use Rattle.matching.proofs.Laws.ReadingOrder.{is_less-order, is_same-exact}
-use Rattle.room.specs.Layout.{head_number, parts, orderPart, slotsPart}
+use Rattle.room.specs.Layout.{head_number, parts, order_part, slots_part}
 use Rattle.room.specs.Held.{held, slots_of}
-use Rattle.room.proofs.BrokenLaws.{agreed, Whole, not-broken-whole}
+use Rattle.room.proofs.BrokenLaws.{agreed, Whole, not_broken-whole}
 use Rattle.room.proofs.Put.{length_part}
 use Rattle.row.specs.Row.{leading, lesser, stands_at}
 use Rattle.row.proofs.OrderLaws.{mem_at, rank, leading_low, leading-high}
 use Rattle.sound.specs.Sound.{Sound, state_of}
-use Rattle.sound.proofs.SoundRoom.{readIn}
+use Rattle.sound.proofs.SoundRoom.{read_in}
 
 -- ---- slots whose readings ascend
 
@@ -89,28 +89,28 @@ module _ (slots : List ℕ) (w : Reading) where
 
 -- the rank of w among the readings present
 abbrev pub rank_in : List ℕ → Reading → ℕ
-rank_in room w = rank (slotsPart (parts room)) w (slots_of room)
+rank_in room w = rank (slots_part (parts room)) w (slots_of room)
 
-pub order-long : (room : List ℕ) → Sound room → length (orderPart (parts room)) ≡ 256
-order-long room s = let whole : Whole room = not-broken-whole room s.whole in length_part room 8816 256 (omega arith)
+pub order_long : (room : List ℕ) → Sound room → length (order_part (parts room)) ≡ 256
+order_long room s = let whole : Whole room = not_broken-whole room s.whole in length_part room 8816 256 (omega arith)
 
 module _ (room : List ℕ) (s : Sound room) (w : Reading) where
-  readings-few : head_number room 2 ≤ length (orderPart (parts room))
+  readings-few : head_number room 2 ≤ length (order_part (parts room))
   readings-few =
-      let whole : Whole room = not-broken-whole room s.whole in
-      omega (arith, order-long room s)
+      let whole : Whole room = not_broken-whole room s.whole in
+      omega (arith, order_long room s)
 
-  pub rank-low : Each (λ r. is_less r w) true (map (readIn room) (take (rank_in room w) (slots_of room)))
-  rank-low = leading_low (slotsPart (parts room)) w (slots_of room)
+  pub rank_low : Each (λ r. is_less r w) true (map (read_in room) (take (rank_in room w) (slots_of room)))
+  rank_low = leading_low (slots_part (parts room)) w (slots_of room)
 
-  pub rank-high : Each (λ r. is_less r w) false (map (readIn room) (drop (rank_in room w) (slots_of room)))
+  pub rank_high : Each (λ r. is_less r w) false (map (read_in room) (drop (rank_in room w) (slots_of room)))
   unfolding held
-  rank-high = leading-high (slotsPart (parts room)) w (slots_of room) s.ascending
+  rank_high = leading-high (slots_part (parts room)) w (slots_of room) s.ascending
 
-  pub rank-inserted : inserted is_less w (held room).readings ≡ map (readIn room) (take (rank_in room w) (slots_of room)) ++ w ∷ map (readIn room) (drop (rank_in room w) (slots_of room))
+  pub rank_inserted : inserted is_less w (held room).readings ≡ map (read_in room) (take (rank_in room w) (slots_of room)) ++ w ∷ map (read_in room) (drop (rank_in room w) (slots_of room))
   unfolding held
-  rank-inserted = leading-inserted (slotsPart (parts room)) w (slots_of room) s.ascending
+  rank_inserted = leading-inserted (slots_part (parts room)) w (slots_of room) s.ascending
 
-  pub stands-present : stands_at (orderPart (parts room)) (slotsPart (parts room)) (head_number room 2) (rank_in room w) w ≡ present (state_of room s) w
+  pub stands-present : stands_at (order_part (parts room)) (slots_part (parts room)) (head_number room 2) (rank_in room w) w ≡ present (state_of room s) w
   unfolding held
-  stands-present = leading-present (slotsPart (parts room)) w (orderPart (parts room)) (head_number room 2) readings-few s.ascending
+  stands-present = leading-present (slots_part (parts room)) w (order_part (parts room)) (head_number room 2) readings-few s.ascending

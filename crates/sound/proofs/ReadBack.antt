@@ -13,7 +13,7 @@ use lib.ListN.{length, get_or}
 use Rattle.numbers.specs.BigEndian.{uint, bytes}
 use Rattle.numbers.specs.Spliced.{spliced}
 use Rattle.numbers.proofs.BigEndian.{length-bytes, uint-spliced, uint-spliced-before, uint-spliced-after}
-use Rattle.numbers.proofs.Spliced.{length-spliced, getD-spliced-before, getD-spliced-in, getD-spliced-after}
+use Rattle.numbers.proofs.Spliced.{length-spliced, get_or-spliced-before, get_or-spliced_in, get_or-spliced-after}
 use Rattle.reading.specs.declared.Reading.{Reading}
 use Rattle.reading.specs.Reading.{reading_at, reading_bytes}
 use Rattle.reading.proofs.Bytes.{length-reading_bytes, reading_bytes-spliced}
@@ -85,21 +85,21 @@ module _ (slots : List ℕ) (v : View) (fits : Fits v.w) (long : v.slot * 12 + 1
 
 -- ---- the 24 bytes of a row
 
-module _ (rows row : List ℕ) (v : View) (row-long : length row ≡ 24) (long : v.slot * 24 + 24 ≤ length rows) where
-  byte-other : (t k : ℕ) → k < 24 → (t < v.slot) ⊎ (v.slot < t) → get_or (spliced rows (v.slot * 24) row) (t * 24 + k) 0 ≡ get_or rows (t * 24 + k) 0
-  byte-other t k few = ⊎_elim
-      (λ (h : t < v.slot). getD-spliced-before rows (v.slot * 24) row (omega arith) (t * 24 + k) 0 (omega arith))
-      (λ (h : v.slot < t). getD-spliced-after rows (v.slot * 24) row (omega arith) (t * 24 + k) 0 (omega arith))
+module _ (rows row : List ℕ) (v : View) (row_long : length row ≡ 24) (long : v.slot * 24 + 24 ≤ length rows) where
+  byte_other : (t k : ℕ) → k < 24 → (t < v.slot) ⊎ (v.slot < t) → get_or (spliced rows (v.slot * 24) row) (t * 24 + k) 0 ≡ get_or rows (t * 24 + k) 0
+  byte_other t k few = ⊎_elim
+      (λ (h : t < v.slot). get_or-spliced-before rows (v.slot * 24) row (omega arith) (t * 24 + k) 0 (omega arith))
+      (λ (h : v.slot < t). get_or-spliced-after rows (v.slot * 24) row (omega arith) (t * 24 + k) 0 (omega arith))
 
   -- a bit past the 192 of a row would be one of the next row
-  pub bit-back : (c t : ℕ) → c < 192 → in_memory (spliced rows (v.slot * 24) row) c t ≡ bit_of rows row v c t
+  pub bit_back : (c t : ℕ) → c < 192 → in_memory (spliced rows (v.slot * 24) row) c t ≡ bit_of rows row v c t
   unfolding bit_of in_memory
-  bit-back c t few =
+  bit_back c t few =
       let k : ℕ = c / 8 in
       let within : k < 24 = omega arith in
       let byte : get_or (spliced rows (v.slot * 24) row) (v.slot * 24 + k) 0 ≡ get_or row (0 * 24 + k) 0 =
-      getD-spliced-in rows (v.slot * 24) row (omega arith) k 0 (omega arith) ∙ ap (λ (i : ℕ). get_or row i 0) (omega arith) in
+      get_or-spliced_in rows (v.slot * 24) row (omega arith) k 0 (omega arith) ∙ ap (λ (i : ℕ). get_or row i 0) (omega arith) in
       ⊎_elim
       (λ (e : t ≡ v.slot). rw (eq-eqb t v.slot e, e, byte))
-      (λ (h : Apart t v.slot). rw (h.0, byte-other t k within h.1))
+      (λ (h : Apart t v.slot). rw (h.0, byte_other t k within h.1))
       (same_or_apart t v.slot)

@@ -19,24 +19,24 @@ use Rattle.matching.specs.Order.{Less, Sorted, without}
 use Rattle.matching.proofs.Laws.Complaints.{book_count-without}
 use Rattle.matching.proofs.Laws.Lists.{omit-one}
 use Rattle.matching.proofs.Laws.Members.{mem_keep}
-use Rattle.matching.proofs.Laws.Orders.{without-split, without_sorted}
+use Rattle.matching.proofs.Laws.Orders.{without_split, without_sorted}
 use Rattle.matching.proofs.Laws.ReadingOrder.{is_less-order, is_same-exact}
 use Rattle.room.specs.Parts.{twos}
-use Rattle.room.specs.Layout.{head_number, limit, parts, completesPart, orderPart, slotsPart, rowsPart, nodesPart, lastsPart}
+use Rattle.room.specs.Layout.{head_number, limit, parts, completes_part, order_part, slots_part, rows_part, nodes_part, lasts_part}
 use Rattle.room.specs.Held.{Once, times, held, slots_of}
-use Rattle.room.proofs.BrokenLaws.{Whole, not-broken-whole}
+use Rattle.room.proofs.BrokenLaws.{Whole, not_broken-whole}
 use Rattle.room.proofs.Order.{times-append}
 use Rattle.rete.specs.Rules.{Told}
 use Rattle.row.specs.Row.{moved_out}
 use Rattle.rete.specs.Sift.{others}
-use Rattle.row.proofs.OrderLaws.{take-movedOut, once-movedOut}
-use Rattle.step.specs.Worked.{slotIn, countsIn, RemovedAt}
+use Rattle.row.proofs.OrderLaws.{take-moved_out, once-moved_out}
+use Rattle.step.specs.Worked.{slot_in, counts_in, RemovedAt}
 use Rattle.sound.specs.Sound.{Sound}
 use Rattle.sound.proofs.Agree.{Bits, bits_either}
 use Rattle.sound.proofs.Next.{Next, slots_next}
 use Rattle.sound.proofs.Once.{times_mem, once-take}
-use Rattle.sound.proofs.Ranks.{order-long}
-use Rattle.sound.proofs.SoundRoom.{readIn, bitIn, passIn, countsOf, sound-bits, sound-counts, sound-completes, sound-stretches, sound-count}
+use Rattle.sound.proofs.Ranks.{order_long}
+use Rattle.sound.proofs.SoundRoom.{read_in, bit_in, pass_in, counts_of, sound-bits, sound-counts, sound-completes, sound_stretches, sound-count}
 
 -- ---- a list that names no slot twice
 
@@ -70,15 +70,15 @@ bits-fewer read bit os os' c rules f fewer = bits_either read bit os' os os (λ 
 
 -- ---- the removal
 
-module _ (room : List ℕ) (s : Sound room) (w : Reading) (p : ℕ) (low : p < head_number room 2) (is : readIn room (slotIn room p) ≡ w) where
+module _ (room : List ℕ) (s : Sound room) (w : Reading) (p : ℕ) (low : p < head_number room 2) (is : read_in room (slot_in room p) ≡ w) where
   abbrev order : List ℕ
-  order = orderPart (parts room)
+  order = order_part (parts room)
 
   abbrev os : List ℕ
   os = slots_of room
 
   abbrev slot : ℕ
-  slot = slotIn room p
+  slot = slot_in room p
 
   -- what stands before the slot, and behind it
   abbrev before : List ℕ
@@ -88,66 +88,66 @@ module _ (room : List ℕ) (s : Sound room) (w : Reading) (p : ℕ) (low : p < h
   after = drop (p + 1) os
 
   whole : Whole room
-  whole = not-broken-whole room s.whole
+  whole = not_broken-whole room s.whole
 
   within : head_number room 2 ≤ length order
-  within = omega (arith, order-long room s, whole.readings, whole.E-high)
+  within = omega (arith, order_long room s, whole.readings, whole.E_high)
 
-  slots-long : length os ≡ head_number room 2
-  slots-long = length-take-le (head_number room 2) order within
+  slots_long : length os ≡ head_number room 2
+  slots_long = length-take-le (head_number room 2) order within
 
   slot-here : get_or os p 0 ≡ slot
   slot-here = get_or-take (head_number room 2) order p 0 low
 
-  slots-split : os ≡ before ++ slot ∷ after
-  slots-split = rw (add-one, ← slot-here) (split_at os p 0 (rw slots-long low))
+  slots_split : os ≡ before ++ slot ∷ after
+  slots_split = rw (add-one, ← slot-here) (split_at os p 0 (rw slots_long low))
 
-  slots-left : others slot os ≡ before ++ after
-  slots-left = rw slot-here at (others-one os p (rw slots-long low) (once-take (head_number room 2) order s.arranged.once))
+  slots_left : others slot os ≡ before ++ after
+  slots_left = rw slot-here at (others-one os p (rw slots_long low) (once-take (head_number room 2) order s.arranged.once))
 
   -- the readings: w stands between those of the slots before it and behind it
-  readings-split : (held room).readings ≡ map (readIn room) before ++ w ∷ map (readIn room) after
+  readings_split : (held room).readings ≡ map (read_in room) before ++ w ∷ map (read_in room) after
   unfolding held
-  readings-split =
-      ap (map (readIn room)) slots-split ∙ map-append (readIn room) before (slot ∷ after)
-      ∙ ap (λ (r : Reading). map (readIn room) before ++ r ∷ map (readIn room) after) is
+  readings_split =
+      ap (map (read_in room)) slots_split ∙ map-append (read_in room) before (slot ∷ after)
+      ∙ ap (λ (r : Reading). map (read_in room) before ++ r ∷ map (read_in room) after) is
 
-  readings-left : map (readIn room) (others slot os) ≡ without is_same w (held room).readings
-  readings-left =
-      let up : Sorted (Less is_less) (map (readIn room) before ++ w ∷ map (readIn room) after) = rw readings-split at s.ascending in
-      ap (map (readIn room)) slots-left ∙ map-append (readIn room) before after
-      ∙ sym (ap (without is_same w) readings-split ∙ without-split is_same-exact w (map (readIn room) before) (map (readIn room) after) is_less-order up)
+  readings_left : map (read_in room) (others slot os) ≡ without is_same w (held room).readings
+  readings_left =
+      let up : Sorted (Less is_less) (map (read_in room) before ++ w ∷ map (read_in room) after) = rw readings_split at s.ascending in
+      ap (map (read_in room)) slots_left ∙ map-append (read_in room) before after
+      ∙ sym (ap (without is_same w) readings_split ∙ without_split is_same-exact w (map (read_in room) before) (map (read_in room) after) is_less-order up)
 
-  bits_left : Bits (others slot os) (readIn room) (bitIn room) 0 s.rules
-  bits_left = bits-fewer (readIn room) (bitIn room) os (others slot os) 0 s.rules (sound-bits room s) (λ t m. ((mem_keep _ os).0 m).0)
+  bits_left : Bits (others slot os) (read_in room) (bit_in room) 0 s.rules
+  bits_left = bits-fewer (read_in room) (bit_in room) os (others slot os) 0 s.rules (sound-bits room s) (λ t m. ((mem_keep _ os).0 m).0)
 
   count_left : book_count s.rules (without is_same w (held room).readings) ≤ limit room
   count_left = omega (arith, sound-count room s, book_count-without w (held room).readings s.rules, whole.tokens)
 
   module _ {tokens complete : ℕ} {room' : List ℕ} (at : RemovedAt room p tokens complete room') where
-    slots_left : slots_next at.aside ≡ others slot os
-    slots_left =
-        ap₂ take at.readings_are at.order_is ∙ take-movedOut order p (head_number room 2) low within
-        ∙ ap (λ (l : List ℕ). l ++ after) (sym (take-take p (head_number room 2) order (omega arith))) ∙ sym slots-left
+    slots_after : slots_next at.aside ≡ others slot os
+    slots_after =
+        ap₂ take at.readings_are at.order_is ∙ take-moved_out order p (head_number room 2) low within
+        ∙ ap (λ (l : List ℕ). l ++ after) (sym (take-take p (head_number room 2) order (omega arith))) ∙ sym slots_left
 
-    told : Told (limit room) (others slot os) (readIn room) (passIn room) (countsOf room s)
-        (nodesPart (parts room)) (lastsPart (parts room)) (replicate 32 0) (twos 32 (completesPart (parts room))) tokens complete at.aside.nodes at.aside.lasts at.aside.ends at.aside.completes
+    told : Told (limit room) (others slot os) (read_in room) (pass_in room) (counts_of room s)
+        (nodes_part (parts room)) (lasts_part (parts room)) (replicate 32 0) (twos 32 (completes_part (parts room))) tokens complete at.aside.nodes at.aside.lasts at.aside.ends at.aside.completes
     told =
-        let counts : countsIn room ≡ countsOf room s = sound-counts room s in
-        rw counts at (at.sifted.does os (readIn room) (passIn room) (rw counts (sound-stretches room s)) (rw counts (sound-completes room s)))
+        let counts : counts_in room ≡ counts_of room s = sound-counts room s in
+        rw counts at (at.sifted.does os (read_in room) (pass_in room) (rw counts (sound_stretches room s)) (rw counts (sound-completes room s)))
 
-    pub removing-next : Next room s at.aside (slotsPart (parts room)) (rowsPart (parts room)) (without is_same w (held room).readings) complete
-    removing-next = record {
-      order-long = ap length at.order_is ∙ length-moved_out order p (head_number room 2) low within ∙ order-long room s;
-      once = rw at.order_is (once-movedOut order p (head_number room 2) low within s.arranged.once);
+    pub removing_next : Next room s at.aside (slots_part (parts room)) (rows_part (parts room)) (without is_same w (held room).readings) complete
+    removing_next = record {
+      order_long = ap length at.order_is ∙ length-moved_out order p (head_number room 2) low within ∙ order_long room s;
+      once = rw at.order_is (once-moved_out order p (head_number room 2) low within s.arranged.once);
       few = omega (arith, at.readings_are, whole.readings);
-      reads = ap (map (readIn room)) slots_left ∙ readings-left;
+      reads = ap (map (read_in room)) slots_after ∙ readings_left;
       ascending = without_sorted is_same w s.ascending;
-      bits = rw slots_left bits_left;
+      bits = rw slots_after bits_left;
       fits = count_left;
-      ns = nodesPart (parts room);
-      ls = lastsPart (parts room);
+      ns = nodes_part (parts room);
+      ls = lasts_part (parts room);
       es = replicate 32 0;
-      ms = twos 32 (completesPart (parts room));
-      told = rw (slots_left, at.tokens_are) told;
+      ms = twos 32 (completes_part (parts room));
+      told = rw (slots_after, at.tokens_are) told;
     }

@@ -9,7 +9,7 @@ use lib.ListN.{length, take, drop, get_or, length-append, length-map, get_or-app
 use lib.Seq.{take_at}
 use Rattle.numbers.specs.BigEndian.{uint, bytes}
 use Rattle.numbers.specs.Spliced.{spliced}
-use Rattle.numbers.proofs.Spliced.{spliced-front}
+use Rattle.numbers.proofs.Spliced.{spliced_front}
 use Rattle.book.specs.Rules.{Rule, condition_count}
 use Rattle.book.proofs.Growth.{length-rule_places}
 use Rattle.reading.specs.declared.Reading.{Reading}
@@ -17,11 +17,11 @@ use Rattle.reading.specs.Reading.{reading_at}
 use Rattle.matching.specs.Match.{token_count}
 use Rattle.matching.specs.Complaints.{levels, pass_of, rule_complaints, book_count, complaints, memories}
 use Rattle.room.specs.Parts.{part, cut, twos, twos_bytes}
-use Rattle.room.specs.Layout.{widths, head_number, limit, parts, head, conditionPlacesPart, rulePlacesPart, ruleConditionsPart, endsPart, completesPart, nodesPart, lastsPart}
+use Rattle.room.specs.Layout.{widths, head_number, limit, parts, head, condition_places_part, rule_places_part, rule_conditions_part, ends_part, completes_part, nodes_part, lasts_part}
 use Rattle.room.specs.Broken.{sum, broken}
 use Rattle.room.specs.Held.{Stored, Held, Arranged, held, in_memory, stored, stored_of, slots_of}
 use Rattle.room.specs.Written.{Aside, stepped}
-use Rattle.room.proofs.BrokenLaws.{Whole, not-broken-whole, whole-not-broken}
+use Rattle.room.proofs.BrokenLaws.{Whole, not_broken-whole, whole_not_broken}
 use Rattle.room.proofs.Put.{length_part}
 use Rattle.room.proofs.Twos.{uint-twos_bytes}
 use Rattle.room.proofs.TwosRead.{length-twos, get_or-twos}
@@ -30,19 +30,19 @@ use Rattle.weave.specs.Built.{nodes, lasts}
 use Rattle.rete.specs.Rules.{rules_built}
 use Rattle.checking.proofs.Fronts.{twos_front}
 use Rattle.sound.specs.Sound.{Sound, held_of, tokens_held, ends_of, completes_of}
-use Rattle.sound.proofs.Agree.{pass_slot, bits-agree}
+use Rattle.sound.proofs.Agree.{pass_slot, bits_agree}
 use Rattle.sound.proofs.Next.{Next, slots_next}
-use Rattle.sound.proofs.RoomBuilt.{room-memories, room-tokens}
+use Rattle.sound.proofs.RoomBuilt.{room_memories, room_tokens}
 use Rattle.sound.proofs.SoundLaws.{held_ext, held-sound, complaints-within}
-use Rattle.sound.proofs.SoundRoom.{testsIn, nodes-long, lasts-long, countsOf, sound-kept, sound-tests, sound-counts}
+use Rattle.sound.proofs.SoundRoom.{tests_in, nodes_long, lasts_long, counts_of, sound_kept, sound-tests, sound-counts}
 use Rattle.sound.proofs.Stretches.{used-stored}
 use Rattle.sound.proofs.Tables.{AtMost, places-counted}
-use Rattle.sound.proofs.TokensBuilt.{Some, Agrees, rulesBuilt-used, length-rulesBuilt, endsBuilt-of, completesBuilt-of, completeBuilt-of}
+use Rattle.sound.proofs.TokensBuilt.{Some, Agrees, rules_built-used, length-rules_built, ends_built_of, completes_built_of, complete_built_of}
 
 -- ---- what is written from the start of a list on
 
 front_spliced : (n : ℕ) (xs ys : List ℕ) → n ≡ length ys → take n (spliced xs 0 ys) ≡ ys
-front_spliced n xs ys e = ap (take n) (spliced-front xs ys) ∙ take_at ys (drop (length ys) xs) n (sym e)
+front_spliced n xs ys e = ap (take n) (spliced_front xs ys) ∙ take_at ys (drop (length ys) xs) n (sym e)
 
 -- ---- the two planes of tokens
 
@@ -80,7 +80,7 @@ completes_of-most most at (rule ∷ rules) R some h (suc i) =
 table_read : (n : ℕ) (was xs l : List ℕ) → xs ≡ spliced was 0 l → n ≡ length l → AtMost 8192 l → twos n (twos_bytes xs) ≡ l
 table_read n was xs l e long small =
     let behind : List ℕ = drop (length l) was in
-    let is : xs ≡ l ++ behind = e ∙ spliced-front was l in
+    let is : xs ≡ l ++ behind = e ∙ spliced_front was l in
     let within : n ≤ length xs = omega (arith, ap length is, length-append l behind) in
     let own : (k : ℕ) → k < n → get_or xs k 0 ≡ get_or l k 0 = λ k h. ap (λ (z : List ℕ). get_or z k 0) is ∙ get_or-append l behind 0 k (omega arith) in
     (twos_front n (twos_bytes xs) xs within).1
@@ -96,11 +96,11 @@ module _ (room : List ℕ) (s : Sound room) where
   sound-rule-count : head_number room 5 ≡ length s.rules
   unfolding held held_of
   sound-rule-count =
-      sym (length-twos (head_number room 5) (rulePlacesPart (parts room))) ∙ ap (λ (h : Held). length h.rule_places) s.holds ∙ length-rule_places 0 s.rules
+      sym (length-twos (head_number room 5) (rule_places_part (parts room))) ∙ ap (λ (h : Held). length h.rule_places) s.holds ∙ length-rule_places 0 s.rules
 
-  sound-condition-count : head_number room 6 ≡ condition_count s.rules
+  sound_condition_count : head_number room 6 ≡ condition_count s.rules
   unfolding held held_of
-  sound-condition-count = places-counted (head_number room 6) (conditionPlacesPart (parts room)) s.rules (ap (λ (h : Held). h.condition_places) s.holds)
+  sound_condition_count = places-counted (head_number room 6) (condition_places_part (parts room)) s.rules (ap (λ (h : Held). h.condition_places) s.holds)
 
 -- ---- what was worked out aside
 
@@ -112,25 +112,25 @@ module _ (room room' : List ℕ) (s : Sound room) (a : Aside) (slots rows : List
   read = reading_at slots
 
   abbrev pass : ℕ → List Reading → ℕ → Bool
-  pass = pass_slot read (in_memory rows) (testsIn room)
+  pass = pass_slot read (in_memory rows) (tests_in room)
 
   abbrev ks : List ℕ
-  ks = countsOf room s
+  ks = counts_of room s
 
   abbrev made : List Stored
   made = rules_built os read pass 0 ks
 
   whole_before : Whole room
-  whole_before = not-broken-whole room s.whole
+  whole_before = not_broken-whole room s.whole
 
   agrees : Agrees os read pass 0 s.rules
-  agrees = bits-agree os read (in_memory rows) (testsIn room) 0 s.rules next.bits (sound-tests room s)
+  agrees = bits_agree os read (in_memory rows) (tests_in room) 0 s.rules next.bits (sound-tests room s)
 
   some : Some s.rules
-  some = (sound-kept room s).some
+  some = (sound_kept room s).some
 
   length-made : length made ≡ book_count s.rules R
-  length-made = length-rulesBuilt os read pass 0 s.rules agrees ∙ ap (book_count s.rules) next.reads
+  length-made = length-rules_built os read pass 0 s.rules agrees ∙ ap (book_count s.rules) next.reads
 
   fits : length made ≤ limit room
   fits = omega (arith, length-made, next.fits)
@@ -141,8 +141,8 @@ module _ (room room' : List ℕ) (s : Sound room) (a : Aside) (slots rows : List
   pub next-tokens : a.tokens ≡ book_count s.rules R
   next-tokens = count ∙ length-made
 
-  pub next-complete : complete ≡ length (complaints s.rules R)
-  next-complete = next.told.complete_is fits ∙ completeBuilt-of os read pass 0 s.rules some agrees ∙ ap (λ (l : List Reading). length (complaints s.rules l)) next.reads
+  pub next_complete : complete ≡ length (complaints s.rules R)
+  next_complete = next.told.complete_is fits ∙ complete_built_of os read pass 0 s.rules some agrees ∙ ap (λ (l : List Reading). length (complaints s.rules l)) next.reads
 
   nodes-aside : take a.tokens a.nodes ≡ nodes made
   nodes-aside =
@@ -160,14 +160,14 @@ module _ (room room' : List ℕ) (s : Sound room) (a : Aside) (slots rows : List
   ends-aside : twos (head_number room 5) (twos_bytes a.ends) ≡ ends_of 0 s.rules R
   ends-aside =
       let are : a.ends ≡ spliced next.es 0 (ends_of 0 s.rules R) =
-      next.told.ends_are fits ∙ ap (spliced next.es 0) (endsBuilt-of os read pass 0 0 s.rules agrees ∙ ap (ends_of 0 s.rules) next.reads) in
+      next.told.ends_are fits ∙ ap (spliced next.es 0) (ends_built_of os read pass 0 0 s.rules agrees ∙ ap (ends_of 0 s.rules) next.reads) in
       table_read (head_number room 5) next.es a.ends (ends_of 0 s.rules R) are (sound-rule-count room s ∙ sym (length-ends_of 0 s.rules R))
       (ends_of-most 8192 0 s.rules R small)
 
   completes-aside : twos (head_number room 5) (twos_bytes a.completes) ≡ completes_of 0 s.rules R
   completes-aside =
       let are : a.completes ≡ spliced next.ms 0 (completes_of 0 s.rules R) =
-      next.told.completes_are fits ∙ ap (spliced next.ms 0) (completesBuilt-of os read pass 0 0 s.rules some agrees ∙ ap (completes_of 0 s.rules) next.reads) in
+      next.told.completes_are fits ∙ ap (spliced next.ms 0) (completes_built_of os read pass 0 0 s.rules some agrees ∙ ap (completes_of 0 s.rules) next.reads) in
       table_read (head_number room 5) next.ms a.completes (completes_of 0 s.rules R) are (sound-rule-count room s ∙ sym (length-completes_of 0 s.rules R))
       (completes_of-most 8192 0 s.rules R some small)
 
@@ -212,7 +212,7 @@ module _ (room room' : List ℕ) (s : Sound room) (a : Aside) (slots rows : List
     rules-here : head_number room' 5 ≡ head_number room 5
     rules-here = after 5 (omega arith)
 
-    counts-here : take (head_number room' 5) (ruleConditionsPart (parts room')) ≡ ks
+    counts-here : take (head_number room' 5) (rule_conditions_part (parts room')) ≡ ks
     unfolding stepped
     counts-here = ap₂ take rules-here (part-here 4) ∙ sound-counts room s
 
@@ -224,34 +224,34 @@ module _ (room room' : List ℕ) (s : Sound room) (a : Aside) (slots rows : List
     plane : (was now from these : List ℕ) → now ≡ spliced was 0 (take a.tokens from) → take a.tokens from ≡ these → length these ≡ length made → take (head_number room' 3) now ≡ these
     plane was now from these e f l = ap₂ take tokens-here (e ∙ ap (spliced was 0) f) ∙ front_spliced a.tokens was these (count ∙ sym l)
 
-    nodes-here : take (head_number room' 3) (nodesPart (parts room')) ≡ nodes made
+    nodes-here : take (head_number room' 3) (nodes_part (parts room')) ≡ nodes made
     unfolding stepped
-    nodes-here = plane (nodesPart (parts room)) (nodesPart (parts room')) a.nodes (nodes made) (part-here 10) nodes-aside (length-map made (λ t. t.node))
+    nodes-here = plane (nodes_part (parts room)) (nodes_part (parts room')) a.nodes (nodes made) (part-here 10) nodes-aside (length-map made (λ t. t.node))
 
-    lasts-here : take (head_number room' 3) (lastsPart (parts room')) ≡ lasts made
+    lasts-here : take (head_number room' 3) (lasts_part (parts room')) ≡ lasts made
     unfolding stepped
-    lasts-here = plane (lastsPart (parts room)) (lastsPart (parts room')) a.lasts (lasts made) (part-here 11) lasts-aside (length-map made (λ t. t.last))
+    lasts-here = plane (lasts_part (parts room)) (lasts_part (parts room')) a.lasts (lasts made) (part-here 11) lasts-aside (length-map made (λ t. t.last))
 
     stored_here : stored_of room' ≡ made
     stored_here = ap₂ stored nodes-here lasts-here ∙ stored-planes made
 
-    ends-here : twos (head_number room' 5) (endsPart (parts room')) ≡ ends_of 0 s.rules R
+    ends-here : twos (head_number room' 5) (ends_part (parts room')) ≡ ends_of 0 s.rules R
     unfolding stepped
     ends-here = ap₂ twos rules-here (part-here 5) ∙ ends-aside
 
-    completes-here : twos (head_number room' 5) (completesPart (parts room')) ≡ completes_of 0 s.rules R
+    completes-here : twos (head_number room' 5) (completes_part (parts room')) ≡ completes_of 0 s.rules R
     unfolding stepped
     completes-here = ap₂ twos rules-here (part-here 6) ∙ completes-aside
 
     memories-here : (held room').memories ≡ memories s.rules R
     unfolding stepped
     memories-here =
-        room-memories room' os slots s.rules slots-here (part-here 8) rows (part-here 9) (after 6 (omega arith) ∙ sound-condition-count room s) next.bits
+        room_memories room' os slots s.rules slots-here (part-here 8) rows (part-here 9) (after 6 (omega arith) ∙ sound_condition_count room s) next.bits
         ∙ ap (memories s.rules) next.reads
 
     tokens-held : (held room').tokens ≡ tokens_held 0 s.rules R
     unfolding stepped
-    tokens-held = room-tokens room' os slots s.rules slots-here (part-here 8) pass counts-here stored_here agrees ∙ ap (tokens_held 0 s.rules) next.reads
+    tokens-held = room_tokens room' os slots s.rules slots-here (part-here 8) pass counts-here stored_here agrees ∙ ap (tokens_held 0 s.rules) next.reads
 
     pub next-holds : held room' ≡ held_of (held room).book s.rules (held room).E (held room).T R
     unfolding held held_of stepped
@@ -279,10 +279,10 @@ module _ (room room' : List ℕ) (s : Sound room) (a : Aside) (slots rows : List
         let most : 0 + book_count s.rules R ≤ head_number room' 3 = omega (arith, tokens-here, next-tokens) in
         record {
           large = omega arith;
-          E-low = omega arith;
-          E-high = omega arith;
-          T-low = omega arith;
-          T-high = omega arith;
+          E_low = omega arith;
+          E_high = omega arith;
+          T_low = omega arith;
+          T_high = omega arith;
           readings = omega (arith, readings-here, next.few);
           tokens = omega (arith, tokens-here, next-tokens, next.fits);
           book = omega (arith, after 4 (omega arith));
@@ -291,13 +291,13 @@ module _ (room room' : List ℕ) (s : Sound room) (a : Aside) (slots rows : List
           zero = after 7 (omega arith) ∙ w.zero;
           counts = λ i h. rw table (w.counts i (omega (arith, rules-here)));
           total = ap sum (ap₂ take rules-here table) ∙ w.total ∙ sym (after 6 (omega arith));
-          ends = table_most (head_number room' 5) (head_number room' 3) (endsPart (parts room')) (ends_of 0 s.rules R) ends-here (ends_of-most (head_number room' 3) 0 s.rules R most);
-          completes = table_most (head_number room' 5) (head_number room' 3) (completesPart (parts room')) (completes_of 0 s.rules R) completes-here
+          ends = table_most (head_number room' 5) (head_number room' 3) (ends_part (parts room')) (ends_of 0 s.rules R) ends-here (ends_of-most (head_number room' 3) 0 s.rules R most);
+          completes = table_most (head_number room' 5) (head_number room' 3) (completes_part (parts room')) (completes_of 0 s.rules R) completes-here
               (completes_of-most (head_number room' 3) 0 s.rules R some most);
         }
 
     pub next-whole : broken room' ≡ false
-    next-whole = whole-not-broken room' whole_here
+    next-whole = whole_not_broken room' whole_here
 
     pub next-arranged : Arranged room'
     unfolding stepped
@@ -305,8 +305,8 @@ module _ (room room' : List ℕ) (s : Sound room) (a : Aside) (slots rows : List
         record {
           once = rw (part-here 7) next.once;
           used = rw slots-here
-              (used-stored os (head_number room' 3) (nodesPart (parts room')) (lastsPart (parts room')) (nodes-long room' whole_here) (lasts-long room' whole_here)
-              (rw stored_here (rulesBuilt-used os read pass 0 ks)));
+              (used-stored os (head_number room' 3) (nodes_part (parts room')) (lasts_part (parts room')) (nodes_long room' whole_here) (lasts_long room' whole_here)
+              (rw stored_here (rules_built-used os read pass 0 ks)));
         }
 
     pub next-sound : Sound room'

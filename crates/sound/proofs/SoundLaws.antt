@@ -14,17 +14,17 @@ use Rattle.reading.specs.declared.Reading.{Reading}
 use Rattle.reading.specs.Reading.{is_less}
 use Rattle.book.specs.Rules.{Rule, last_or}
 use Rattle.book.specs.Read.{read_book, accepted}
-use Rattle.book.proofs.Lasts.{lastOr-snoc}
+use Rattle.book.proofs.Lasts.{last_or_snoc}
 use Rattle.matching.specs.Lists.{concat_map}
 use Rattle.matching.specs.Match.{matches, token_count}
 use Rattle.matching.specs.Order.{Less, Sorted}
 use Rattle.matching.specs.Complaints.{levels, pass_of, rule_complaints, book_count, complaints}
-use Rattle.matching.proofs.Laws.Tokens.{length-ruleTokens}
+use Rattle.matching.proofs.Laws.Tokens.{length-rule_tokens}
 use Rattle.room.specs.Parts.{twos}
-use Rattle.room.specs.Layout.{head_number, limit, parts, completesPart, orderPart, nodesPart, lastsPart}
+use Rattle.room.specs.Layout.{head_number, limit, parts, completes_part, order_part, nodes_part, lasts_part}
 use Rattle.room.specs.Broken.{broken}
 use Rattle.room.specs.Held.{Stored, Held, Arranged, held, stored, tokens_from}
-use Rattle.room.proofs.BrokenLaws.{Whole, not-broken-whole}
+use Rattle.room.proofs.BrokenLaws.{Whole, not_broken-whole}
 use Rattle.room.proofs.Put.{length_part}
 use Rattle.sound.specs.Sound.{Sound, held_of, rule_held, tokens_held, completes_of}
 use Rattle.room.specs.Held.{complete_of}
@@ -34,7 +34,7 @@ use Rattle.room.specs.Held.{complete_of}
 pub length-tokens_held : (base : ℕ) (rules : List Rule) (R : List Reading) → length (tokens_held base rules R) ≡ book_count rules R
 unfolding tokens_held rule_held book_count
 length-tokens_held base [] R = refl
-length-tokens_held base (rule ∷ rules) R = rw (length-append, length-map, length-ruleTokens rule R, length-tokens_held (base + levels rule) rules R)
+length-tokens_held base (rule ∷ rules) R = rw (length-append, length-map, length-rule_tokens rule R, length-tokens_held (base + levels rule) rules R)
 
 -- ---- the complete matches up to and with the last rule are all complaints
 
@@ -77,25 +77,25 @@ unfolding twos last_or
 last-twos zero l = refl
 last-twos (suc n) l =
     let e : suc n - 1 ≡ n = omega arith in
-    lastOr-snoc 0 (twos n l) (uint 2 l (n * 2)) ∙ simp (e, ne_eqb (suc n) 0 (λ (q : suc n ≡ 0). omega arith))
+    last_or_snoc 0 (twos n l) (uint 2 l (n * 2)) ∙ simp (e, ne_eqb (suc n) 0 (λ (q : suc n ≡ 0). omega arith))
 
 module _ (room : List ℕ) (w : Whole room) where
   pub length-held-readings : length (held room).readings ≡ head_number room 2
   unfolding held
-  length-held-readings = rw length-map (length-take-le (head_number room 2) (orderPart (parts room)) (omega (arith, length_part room 8816 256 (omega arith))))
+  length-held-readings = rw length-map (length-take-le (head_number room 2) (order_part (parts room)) (omega (arith, length_part room 8816 256 (omega arith))))
 
   pub length-held-tokens : length (held room).tokens ≡ head_number room 3
   unfolding held
   length-held-tokens =
       let T : ℕ = limit room in
       let t : ℕ = head_number room 3 in
-      let ns : length (take t (nodesPart (parts room))) ≡ t = length-take-le t (nodesPart (parts room)) (omega (arith, length_part room 18288 T (omega arith))) in
-      let ls : length (take t (lastsPart (parts room))) ≡ t = length-take-le t (lastsPart (parts room)) (omega (arith, length_part room (18288 + T) T (omega arith))) in
+      let ns : length (take t (nodes_part (parts room))) ≡ t = length-take-le t (nodes_part (parts room)) (omega (arith, length_part room 18288 T (omega arith))) in
+      let ls : length (take t (lasts_part (parts room))) ≡ t = length-take-le t (lasts_part (parts room)) (omega (arith, length_part room (18288 + T) T (omega arith))) in
       simp (length-map, length-tokens_from) (length-stored _ _ (ls ∙ sym ns) ∙ ns)
 
 pub complete_of-held : (room : List ℕ) → complete_of room ≡ last_or 0 (held room).completes
 unfolding held complete_of
-complete_of-held room = sym (last-twos (head_number room 5) (completesPart (parts room)))
+complete_of-held room = sym (last-twos (head_number room 5) (completes_part (parts room)))
 
 -- ---- a sound room
 
@@ -129,13 +129,13 @@ module _ (room : List ℕ) (s : Sound room) where
   pub sound-tokens : head_number room 3 ≡ book_count s.rules (held room).readings
   unfolding held_of
   sound-tokens =
-      sym (length-held-tokens room (not-broken-whole room s.whole))
+      sym (length-held-tokens room (not_broken-whole room s.whole))
       ∙ ap (λ (h : Held). length h.tokens) s.holds
       ∙ length-tokens_held 0 s.rules (held room).readings
 
-  pub sound-complete : complete_of room ≡ length (complaints s.rules (held room).readings)
+  pub sound_complete : complete_of room ≡ length (complaints s.rules (held room).readings)
   unfolding held_of
-  sound-complete =
+  sound_complete =
       complete_of-held room
       ∙ ap (λ (h : Held). last_or 0 h.completes) s.holds
       ∙ omega (arith, last-completes_of 0 s.rules (held room).readings)

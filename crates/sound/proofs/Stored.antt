@@ -19,19 +19,19 @@ module _ (level : ℕ → ℕ) (read : ℕ → Reading) where
   length-tokens_from u [] = refl
   length-tokens_from u (t ∷ ts) = rw (length-tokens_from (take (level t.node) u ++ read t.last ∷ []) ts)
 
-  pub nodes-tokensFrom : (u : List Reading) (ts : List Stored) → map (λ p. p.0) (tokens_from level read u ts) ≡ nodes ts
+  pub nodes-tokens_from : (u : List Reading) (ts : List Stored) → map (λ p. p.0) (tokens_from level read u ts) ≡ nodes ts
   unfolding tokens_from
-  nodes-tokensFrom u [] = refl
-  nodes-tokensFrom u (t ∷ ts) = rw (nodes-tokensFrom (take (level t.node) u ++ read t.last ∷ []) ts)
+  nodes-tokens_from u [] = refl
+  nodes-tokens_from u (t ∷ ts) = rw (nodes-tokens_from (take (level t.node) u ++ read t.last ∷ []) ts)
 
   module _ (os : List ℕ) (told : Distinct read os) where
-    pub tokens-injective : (u : List Reading) (ts ts' : List Stored) → Used os ts → Used os ts'
+    pub tokens_injective : (u : List Reading) (ts ts' : List Stored) → Used os ts → Used os ts'
         → tokens_from level read u ts ≡ tokens_from level read u ts' → ts ≡ ts'
     unfolding tokens_from
-    tokens-injective u [] [] h h' e = refl
-    tokens-injective u [] (t' ∷ ts') h h' e = absurd (nil≢cons e)
-    tokens-injective u (t ∷ ts) [] h h' e = absurd (nil≢cons (sym e))
-    tokens-injective u (t ∷ ts) (t' ∷ ts') h h' e =
+    tokens_injective u [] [] h h' e = refl
+    tokens_injective u [] (t' ∷ ts') h h' e = absurd (nil≢cons e)
+    tokens_injective u (t ∷ ts) [] h h' e = absurd (nil≢cons (sym e))
+    tokens_injective u (t ∷ ts) (t' ∷ ts') h h' e =
         let v : List Reading = take (level t.node) u ++ read t.last ∷ [] in
         let v' : List Reading = take (level t'.node) u ++ read t'.last ∷ [] in
         let parts = cons-eq-cons.0 e in
@@ -42,7 +42,7 @@ module _ (level : ℕ → ℕ) (read : ℕ → Reading) where
         let last : t.last ≡ t'.last = told t.last t'.last (h t (Memᴰ.head refl)) (h' t' (Memᴰ.head refl)) reading in
         let rest : tokens_from level read v ts ≡ tokens_from level read v ts' = rw (← tuple) at parts.1 in
         ap₂ (λ (x : Stored) (l : List Stored). x ∷ l) (ap₂ token node last)
-        (tokens-injective v ts ts' (λ x m. h x (Memᴰ.tail m)) (λ x m. h' x (Memᴰ.tail m)) rest)
+        (tokens_injective v ts ts' (λ x m. h x (Memᴰ.tail m)) (λ x m. h' x (Memᴰ.tail m)) rest)
 
 -- a node and the readings there, as a token held
 abbrev pub as_token : ℕ × List Reading → Token

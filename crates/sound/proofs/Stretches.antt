@@ -13,7 +13,7 @@ use Rattle.room.specs.Held.{Stored, stored}
 use Rattle.weave.specs.Built.{token, built}
 use Rattle.weave.specs.Weave.{olds_from}
 use Rattle.rete.specs.Rules.{rules_built, ends_built, Stretches}
-use Rattle.weave.proofs.OldLaws.{olds-past, olds-begin}
+use Rattle.weave.proofs.OldLaws.{olds_past, olds_begin}
 use Rattle.sound.proofs.Stored.{Used}
 
 -- ---- stored tokens: the slots in them
@@ -37,15 +37,15 @@ used-stored os (suc n) (x ∷ ns) (y ∷ ls) h i u (suc k) l = used-stored os n 
 
 -- ---- rule after rule
 
-module _ (ns ls os : List ℕ) (read : ℕ → Reading) (pass : ℕ → List Reading → ℕ → Bool) (n : ℕ) (nodes-long : n ≤ length ns) (lasts-long : n ≤ length ls) where
-  pub stretches-built : (i c : ℕ) (ks : List ℕ) → i ≤ n → olds_from ns ls i n ≡ rules_built os read pass c ks → Stretches ns ls os read pass i c (ends_built os read pass i c ks) ks
+module _ (ns ls os : List ℕ) (read : ℕ → Reading) (pass : ℕ → List Reading → ℕ → Bool) (n : ℕ) (nodes_long : n ≤ length ns) (lasts_long : n ≤ length ls) where
+  pub stretches_built : (i c : ℕ) (ks : List ℕ) → i ≤ n → olds_from ns ls i n ≡ rules_built os read pass c ks → Stretches ns ls os read pass i c (ends_built os read pass i c ks) ks
   unfolding rules_built ends_built
-  stretches-built i c [] h e = tt
-  stretches-built i c (k ∷ ks) h e =
+  stretches_built i c [] h e = tt
+  stretches_built i c (k ∷ ks) h e =
       let xs : List Stored = built os read pass k c [] in
       let ys : List Stored = rules_built os read pass (c + k) ks in
-      let B = olds-begin ns ls n nodes-long lasts-long i xs ys h e in (
+      let B = olds_begin ns ls n nodes_long lasts_long i xs ys h e in (
         omega arith,
         B.first,
-        stretches-built (i + length xs) (c + k) ks B.within (olds-past ns ls i n xs ys e),
+        stretches_built (i + length xs) (c + k) ks B.within (olds_past ns ls i n xs ys e),
       )

@@ -10,22 +10,22 @@ use lib.Seq.{get_or-take, get_or-drop, take-take}
 use Rattle.numbers.specs.BigEndian.{uint}
 use Rattle.reading.specs.declared.Reading.{Reading}
 use Rattle.room.specs.Parts.{part, cut, twos}
-use Rattle.room.specs.Layout.{widths, head_number, limit, parts, nodesPart, lastsPart}
+use Rattle.room.specs.Layout.{widths, head_number, limit, parts, nodes_part, lasts_part}
 use Rattle.room.specs.Broken.{broken, sum}
 use Rattle.room.specs.Written.{Aside, stepped, slots_with, rows_with, Stepping}
-use Rattle.room.proofs.BrokenLaws.{Whole, head_number-at, not-broken-whole}
+use Rattle.room.proofs.BrokenLaws.{Whole, head_number-at, not_broken-whole}
 use Rattle.room.proofs.Large.{large-part}
 use Rattle.room.proofs.Put.{length_part}
 use Rattle.weave.specs.View.{seen}
 use Rattle.row.specs.Row.{RowOf, book_flags, moved_in}
 use Rattle.weave.specs.Weave.{Lent}
 use Rattle.rete.specs.Rules.{Weaves, Tables}
-use Rattle.row.proofs.Sums.{sum-take_le}
-use Rattle.step.specs.Worked.{bookIn, slotIn, AddedAt}
+use Rattle.row.proofs.Sums.{sum_take_le}
+use Rattle.step.specs.Worked.{book_in, slot_in, AddedAt}
 
 -- what lies before the tokens is in the room
 pub in_room : (room : List ℕ) → broken room ≡ false → {e : ℕ} → e ≤ 18288 → e ≤ length room
-in_room room whole h = let w = not-broken-whole room whole in omega arith
+in_room room whole h = let w = not_broken-whole room whole in omega arith
 
 -- a number of the header as it is read
 pub number_read : (room : List ℕ) (k : ℕ) {x : ℕ} → k < 8 → x ≡ uint 2 room (k * 2) → x ≡ head_number room k
@@ -34,17 +34,17 @@ number_read room k h e = e ∙ sym (head_number-at room k h)
 -- a whole room, and the limit, the readings and the rules that were read of it
 pub record Known (room : List ℕ) (T n rules : ℕ) : Type 0 where
   pub whole : Whole room
-  pub T-is : T ≡ limit room
+  pub T_is : T ≡ limit room
   pub n_is : n ≡ head_number room 2
-  pub rules-is : rules ≡ head_number room 5
+  pub rules_is : rules ≡ head_number room 5
 
 pub known : (room : List ℕ) {T n rules : ℕ} → broken room ≡ false → T ≡ uint 2 room 2 → n ≡ uint 2 room 4 → rules ≡ uint 2 room 10 → Known room T n rules
 known room h t r s =
     record {
-      whole = not-broken-whole room h;
-      T-is = number_read room 1 (omega arith) t;
+      whole = not_broken-whole room h;
+      T_is = number_read room 1 (omega arith) t;
       n_is = number_read room 2 (omega arith) r;
-      rules-is = number_read room 5 (omega arith) s;
+      rules_is = number_read room 5 (omega arith) s;
     }
 
 -- what is lent to be filled
@@ -67,58 +67,58 @@ module _ {room : List ℕ} {T n rules : ℕ} (k : Known room T n rules) where
   pub large : 18288 + T * 2 ≤ length room
   large = omega arith
 
-  pub fixed-part : (a w : ℕ) → a + w ≤ 18288 → length (part room a w) ≡ w
-  fixed-part a w h = large-part room a w h (omega arith)
+  pub fixed_part : (a w : ℕ) → a + w ≤ 18288 → length (part room a w) ≡ w
+  fixed_part a w h = large-part room a w h (omega arith)
 
-  nodes-long : length (nodes_lent room T) ≡ T
-  nodes-long = length_part room 18288 (18288 + T - 18288) (omega arith) ∙ omega arith
+  nodes_long : length (nodes_lent room T) ≡ T
+  nodes_long = length_part room 18288 (18288 + T - 18288) (omega arith) ∙ omega arith
 
-  lasts-long : length (lasts_lent room T) ≡ T
-  lasts-long = length_part room (18288 + T) (18288 + T + T - (18288 + T)) (omega arith) ∙ omega arith
+  lasts_long : length (lasts_lent room T) ≡ T
+  lasts_long = length_part room (18288 + T) (18288 + T + T - (18288 + T)) (omega arith) ∙ omega arith
 
   -- ---- the parts as they are lent
 
-  nodes-lent : nodes_lent room T ≡ nodesPart (parts room)
+  nodes-lent : nodes_lent room T ≡ nodes_part (parts room)
   nodes-lent =
       let w : 18288 + T - 18288 ≡ limit room = omega arith in
       ap (part room 18288) w
 
-  lasts-lent : lasts_lent room T ≡ lastsPart (parts room)
+  lasts-lent : lasts_lent room T ≡ lasts_part (parts room)
   lasts-lent =
       let a : 18288 + T ≡ 18288 + limit room = omega arith in
       let w : 18288 + T + T - (18288 + T) ≡ limit room = omega arith in
       ap₂ (part room) a w
 
-  book-lent : (L : ℕ) → L ≡ head_number room 4 → part room 16 (16 + L - 16) ≡ bookIn room
+  book-lent : (L : ℕ) → L ≡ head_number room 4 → part room 16 (16 + L - 16) ≡ book_in room
   book-lent L e =
       let w : 16 + L - 16 ≡ head_number room 4 = omega arith in
       ap (part room 16) w ∙ sym (take-take (head_number room 4) 8192 (drop 16 room) k.whole.book)
 
-  pub slot_read : (p : ℕ) → p < 256 → get_or room (8816 + p) 0 ≡ slotIn room p
+  pub slot_read : (p : ℕ) → p < 256 → get_or room (8816 + p) 0 ≡ slot_in room p
   slot_read p h = sym (get_or-take 256 (drop 8816 room) p 0 h ∙ get_or-drop 8816 room p 0)
 
   -- ---- what making a row asks
 
   conditions-few : sum (take rules (part room 8656 32)) ≤ 192
   conditions-few =
-      let total : sum (take rules (part room 8656 32)) ≡ head_number room 6 = rw k.rules-is k.whole.total in
+      let total : sum (take rules (part room 8656 32)) ≡ head_number room 6 = rw k.rules_is k.whole.total in
       omega arith
 
   -- the conditions as they are read: those of the rules, and no more than the whole table tells
-  pub conditions-are : {conditions : ℕ} → conditions ≡ uint 2 room 12 → sum (take rules (part room 8656 32)) ≡ conditions
-  conditions-are e = rw k.rules-is (k.whole.total ∙ sym (number_read room 6 (omega arith) e))
+  pub conditions_are : {conditions : ℕ} → conditions ≡ uint 2 room 12 → sum (take rules (part room 8656 32)) ≡ conditions
+  conditions_are e = rw k.rules_is (k.whole.total ∙ sym (number_read room 6 (omega arith) e))
 
-  pub conditions-told : {conditions : ℕ} → conditions ≡ uint 2 room 12 → conditions ≤ sum (part room 8656 32)
-  conditions-told e =
+  pub conditions_told : {conditions : ℕ} → conditions ≡ uint 2 room 12 → conditions ≤ sum (part room 8656 32)
+  conditions_told e =
       omega (
         arith,
-        conditions-are e,
-        sum-take_le (part room 8656 32) rules 32 (omega arith),
+        conditions_are e,
+        sum_take_le (part room 8656 32) rules 32 (omega arith),
         ap sum (take-take 32 32 (drop 8656 room) (omega arith)),
       )
 
   pub conditions-low : {conditions : ℕ} → conditions ≡ uint 2 room 12 → conditions ≤ 192
-  conditions-low e = omega (arith, conditions-are e, conditions-few)
+  conditions-low e = omega (arith, conditions_are e, conditions-few)
 
   -- ---- what the walk over the rules asks
 
@@ -129,34 +129,34 @@ module _ {room : List ℕ} {T n rules : ℕ} (k : Known room T n rules) where
       → Lent (part room 8208 384) (part room 9072 3072) (part room 12144 6144) row order (zeros 2048) (zeros 2048) (n + 1) T
   lent row order r o h =
       record {
-        places-long = fixed-part 8208 384 (omega arith);
-        slots-long = fixed-part 9072 3072 (omega arith);
-        rows_long = fixed-part 12144 6144 (omega arith);
-        row-long = r;
-        order-long = omega arith;
-        nodes-long = planes-long;
-        lasts-long = planes-long;
+        places_long = fixed_part 8208 384 (omega arith);
+        slots_long = fixed_part 9072 3072 (omega arith);
+        rows_long = fixed_part 12144 6144 (omega arith);
+        row_long = r;
+        order_long = omega arith;
+        nodes_long = planes-long;
+        lasts_long = planes-long;
         few = omega arith;
       }
 
   -- of tokens whose nodes and last slots are as many as the limit says
-  pub tables-of : {olds oldl : List ℕ} → length olds ≡ T → length oldl ≡ T
+  pub tables_of : {olds oldl : List ℕ} → length olds ≡ T → length oldl ≡ T
       → Tables (part room 8656 32) (part room 8688 64) (part room 8752 64) olds oldl (zeros 32) (zeros 32) rules
-  tables-of nodes lasts =
+  tables_of nodes lasts =
       record {
         few = omega arith;
-        counts-long = omega (arith, fixed-part 8656 32 (omega arith));
-        ends-long = omega (arith, fixed-part 8688 64 (omega arith));
-        fulls-long = omega (arith, fixed-part 8752 64 (omega arith));
+        counts_long = omega (arith, fixed_part 8656 32 (omega arith));
+        ends_long = omega (arith, fixed_part 8688 64 (omega arith));
+        fulls_long = omega (arith, fixed_part 8752 64 (omega arith));
         fs_long = length_zeros 32;
         ms_long = length_zeros 32;
         each = λ r h. k.whole.counts r (omega arith);
         total = conditions-few;
-        ends-fit = λ r h. (omega (arith, k.whole.ends r (omega arith)), omega (arith, k.whole.ends r (omega arith)));
+        ends_fit = λ r h. (omega (arith, k.whole.ends r (omega arith)), omega (arith, k.whole.ends r (omega arith)));
       }
 
   pub tables : Tables (part room 8656 32) (part room 8688 64) (part room 8752 64) (nodes_lent room T) (lasts_lent room T) (zeros 32) (zeros 32) rules
-  tables = tables-of nodes-long lasts-long
+  tables = tables_of nodes_long lasts_long
 
   -- ---- what the writing asks
 
@@ -191,13 +191,13 @@ module _ {room : List ℕ} {T n rules : ℕ} (k : Known room T n rules) where
       record {
         aside = s;
         row = row;
-        made = rw (book-lent L book, k.rules-is) at made;
+        made = rw (book-lent L book, k.rules_is) at made;
         readings_are = omega arith;
         tokens_are = tokens;
         order_is = rw k.n_is at order;
-        woven = rw (book-lent L book, nodes-lent, lasts-lent, slot_read n h, k.T-is, k.n_is, k.rules-is) at weaves;
+        woven = rw (book-lent L book, nodes-lent, lasts-lent, slot_read n h, k.T_is, k.n_is, k.rules_is) at weaves;
         slot_small = rw (slot_read n h, k.n_is) at small;
         full = λ more. full (omega arith);
-        written = λ fits. rw (slot_read n h, k.T-is, k.n_is) at (written (omega arith));
+        written = λ fits. rw (slot_read n h, k.T_is, k.n_is) at (written (omega arith));
         long = long;
       }

@@ -5,7 +5,7 @@ use mathlib.Core.Path.{◌≡◌, sym, ◌∙◌}
 use native.Mathlib.Omega.{arith}
 use borrow.Author.Rules.{rules}
 use Rattle.room.specs.Broken.{broken}
-use Rattle.room.proofs.BrokenLaws.{not-broken-whole}
+use Rattle.room.proofs.BrokenLaws.{not_broken-whole}
 use Rattle.malletfrond.proofs.CallLaws.{counts-broken, counts_whole}
 use Rattle.malletfrond.proofs.counts.Statement.{statement}
 use Rattle.malletfrond.proofs.counts.Tie as tie
@@ -14,17 +14,17 @@ use Rattle.malletfrond.proofs.counts.Tie as tie
 intact : (c : tie.Else-is_broken) → broken c.before.before.before.args.room.now ≡ false
 intact c = sym c.before.is_broken.ensures ∙ c.if-is_broken.false
 
-is-broken_requires : tie.Need-is_broken-requires
-is-broken_requires c κs = search rules
+is_broken_requires : tie.Need-is_broken-requires
+is_broken_requires c κs = search rules
 
 returns : tie.Need-returns-then-is_broken
 returns c = counts-broken _ (sym c.before.is_broken.ensures ∙ c.if-is_broken.true)
 
-two-at_requires : tie.Need-two_at-requires
-two-at_requires c κs = let w = not-broken-whole _ (intact c) in omega arith
+two_at_requires : tie.Need-two_at-requires
+two_at_requires c κs = let w = not_broken-whole _ (intact c) in omega arith
 
-two-at_requires_2 : tie.Need-two_at-requires-2
-two-at_requires_2 c κs = let w = not-broken-whole _ (intact c.before) in omega arith
+two_at_requires_2 : tie.Need-two_at-requires-2
+two_at_requires_2 c κs = let w = not_broken-whole _ (intact c.before) in omega arith
 
 complete_of_requires : tie.Need-complete_of-requires
 complete_of_requires c κs = intact c.before.before
@@ -38,9 +38,9 @@ pub counts_spec : {M : Type 1} → statement M
 counts_spec =
     tie.close
     (tie.spec
-    is-broken_requires
+    is_broken_requires
     returns
-    two-at_requires
-    two-at_requires_2
+    two_at_requires
+    two_at_requires_2
     complete_of_requires
     returns_2)

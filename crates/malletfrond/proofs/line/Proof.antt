@@ -11,7 +11,7 @@ use Rattle.lines.specs.Found.{ComplaintAt}
 use Rattle.room.specs.Broken.{broken}
 use Rattle.room.specs.Held.{complete_of}
 use Rattle.step.proofs.Lending.{in_room}
-use Rattle.malletfrond.proofs.LineCallLaws.{lines-broken, lines_none, lines-lost, lines-beyond, complaint_as, rule-low, rule-placed, record_lent, wording-short, Put, lines-put}
+use Rattle.malletfrond.proofs.LineCallLaws.{lines-broken, lines_none, lines_lost, lines-beyond, complaint_as, rule-low, rule_placed, record_lent, wording-short, Put, lines-put}
 use Rattle.malletfrond.proofs.line.Statement.{statement}
 use Rattle.malletfrond.proofs.line.Tie as tie
 
@@ -61,8 +61,8 @@ put c =
 
 -- ---- the needs
 
-is-broken_requires : tie.Need-is_broken-requires
-is-broken_requires c κs = search rules
+is_broken_requires : tie.Need-is_broken-requires
+is_broken_requires c κs = search rules
 
 returns : tie.Need-returns-then-is_broken
 returns c = lines-broken _ _ _ (sym c.before.is_broken.ensures ∙ c.if-is_broken.true)
@@ -79,10 +79,10 @@ complaint_at_requires c κs = intact (whole c)
 returns_3 : tie.Need-returns-then-not-c
 returns_3 c =
     let a = asked c.before in
-    lines-lost _ _ _ (intact (whole a)) (counted a) (complaint_as (not-true _ c.if-not-c.true) c.before.before.complaint_at-c.ensures)
+    lines_lost _ _ _ (intact (whole a)) (counted a) (complaint_as (not-true _ c.if-not-c.true) c.before.before.complaint_at-c.ensures)
 
-sub_two-at : tie.Need-slice_bounds-two_at-count
-sub_two-at c = search rules
+sub_two_at : tie.Need-slice_bounds-two_at-count
+sub_two_at c = search rules
 
 part-two-at-start : tie.Need-slice_bounds-two_at-start
 part-two-at-start c = search rules
@@ -90,13 +90,13 @@ part-two-at-start c = search rules
 part-two-at-end : tie.Need-slice_bounds-two_at-end
 part-two-at-end c = in_room _ (intact (whole (sought c))) (lit≤ tt)
 
-mul_two-at : tie.Need-overflow_mul-c
-mul_two-at c =
+mul_two_at : tie.Need-overflow_mul-c
+mul_two_at c =
     let f = c.before.before in
     omega (arith, rule-low (intact (whole (sought f))) (found f))
 
-two-at_requires : tie.Need-two_at-place-requires
-two-at_requires c κs = let f = c.before.before in rule-placed (intact (whole (sought f))) (found f)
+two_at_requires : tie.Need-two_at-place-requires
+two_at_requires c κs = let f = c.before.before in rule_placed (intact (whole (sought f))) (found f)
 
 add_from : tie.Need-overflow_add-from
 add_from c = omega (arith, c.two_at-place.ensures.1)
@@ -110,17 +110,17 @@ returns_4 c = let f = there c.before in lines-beyond _ _ _ (intact (whole (sough
 add-two-at : tie.Need-overflow_add-from-2
 add-two-at c = omega (arith, c.if-to-gt-CONDITION_PLACES.false)
 
-two-at_requires_2 : tie.Need-two_at-number-requires
-two-at_requires_2 c κs = (record_lent _ c.before.two_at-place.result (intact (whole (sought (there c.before)))) c.if-to-gt-CONDITION_PLACES.false).0
+two_at_requires_2 : tie.Need-two_at-number-requires
+two_at_requires_2 c κs = (record_lent _ c.before.two_at-place.result (intact (whole (sought (there c.before)))) c.if-to-gt-CONDITION_PLACES.false).0
 
 add_start : tie.Need-overflow_add-start
 add_start c = omega (arith, c.before.if-to-gt-CONDITION_PLACES.false)
 
-cast_put-line : tie.Need-overflow_cast-number
-cast_put-line c = omega (arith, c.before.before.two_at-number.ensures.1)
+cast_put_line : tie.Need-overflow_cast-number
+cast_put_line c = omega (arith, c.before.before.two_at-number.ensures.1)
 
-sub_put-line : tie.Need-slice_bounds-put_line-count
-sub_put-line c = search rules
+sub_put_line : tie.Need-slice_bounds-put_line-count
+sub_put_line c = search rules
 
 part-put-line-start : tie.Need-slice_bounds-put_line-start
 part-put-line-start c = search rules
@@ -128,10 +128,10 @@ part-put-line-start c = search rules
 part-put-line-end : tie.Need-slice_bounds-put_line-end
 part-put-line-end c = let e = c.before.before.before in (record_lent _ e.before.two_at-place.result (intact (whole (sought (there e.before)))) e.if-to-gt-CONDITION_PLACES.false).1
 
-put-line_requires : tie.Need-put_line-length-requires
-put-line_requires c κs =
+put_line_requires : tie.Need-put_line-length-requires
+put_line_requires c κs =
     let e = within c in
-    (c.before.before.before.two_at-number.ensures.1, (((found (there e.before)).count-is refl).1, wording-short _ e.before.two_at-place.result))
+    (c.before.before.before.two_at-number.ensures.1, (((found (there e.before)).count_is refl).1, wording-short _ e.before.two_at-place.result))
 
 same_length : tie.Need-shape_of-buffer-then-length-eq0
 same_length c = search rules
@@ -139,8 +139,8 @@ same_length c = search rules
 returns_5 : tie.Need-returns-then-length-eq0
 returns_5 c = (put c.before.before.before).0 c.if-length-eq0.true
 
-same-length_2 : tie.Need-shape_of-buffer
-same-length_2 c = search rules
+same_length_2 : tie.Need-shape_of-buffer
+same_length_2 c = search rules
 
 returns_6 : tie.Need-returns
 returns_6 c = (put c.before.before.before).1 c.if-length-eq0.false
@@ -149,29 +149,29 @@ pub line_spec : {M : Type 1} → statement M
 line_spec =
     tie.close
     (tie.spec
-    is-broken_requires
+    is_broken_requires
     returns
     complete_of_requires
     returns_2
     complaint_at_requires
     returns_3
-    sub_two-at
+    sub_two_at
     part-two-at-start
     part-two-at-end
-    mul_two-at
-    two-at_requires
+    mul_two_at
+    two_at_requires
     add_from
     add_to
     returns_4
     add-two-at
-    two-at_requires_2
+    two_at_requires_2
     add_start
-    cast_put-line
-    sub_put-line
+    cast_put_line
+    sub_put_line
     part-put-line-start
     part-put-line-end
-    put-line_requires
+    put_line_requires
     same_length
     returns_5
-    same-length_2
+    same_length_2
     returns_6)

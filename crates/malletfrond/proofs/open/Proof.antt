@@ -6,7 +6,7 @@ use native.Mathlib.Omega.{arith}
 use borrow.Author.Rules.{rules}
 use borrow.Author.Tests.{not-true, not-false}
 use Rattle.malletfrond.specs.Answers.{limits_fit}
-use Rattle.malletfrond.proofs.OpenLaws.{limits_fit_lem, opens-unfit, opens_small, opens-not-read, Found, found-accepted, found-refused, found-few, found-opening, opens-found}
+use Rattle.malletfrond.proofs.OpenLaws.{limits_fit_lem, opens_unfit, opens_small, opens_not_read, Found, found-accepted, found-refused, found-few, found-opening, opens-found}
 use Rattle.malletfrond.proofs.open.Statement.{statement}
 use Rattle.malletfrond.proofs.open.Tie as tie
 
@@ -33,7 +33,7 @@ limits_fit_requires : tie.Need-limits_fit-requires
 limits_fit_requires c κs = search rules
 
 returns : tie.Need-returns-then-not-limits_fit
-returns c = opens-unfit _ _ _ _ (sym c.before.limits_fit.ensures ∙ not-true _ c.if-not-limits_fit.true-raw)
+returns c = opens_unfit _ _ _ _ (sym c.before.limits_fit.ensures ∙ not-true _ c.if-not-limits_fit.true-raw)
 
 mul_if2 : tie.Need-overflow_mul-t
 mul_if2 c = let l = (limits_fit_lem _ _).0 (fit c) in omega arith
@@ -82,7 +82,7 @@ write_opening_requires c κs =
 returns_3 : tie.Need-returns-in-Refused
 returns_3 c =
     let b = c.before.before.before in
-    opens-not-read _ _ _ _ (fit b.before.before) b.before.if-room-t.false _ _ (found-refused _ _ b.find_places-found.ensures _ _ c.before.answer-1.given.1)
+    opens_not_read _ _ _ _ (fit b.before.before) b.before.if-room-t.false _ _ (found-refused _ _ b.find_places-found.ensures _ _ c.before.answer-1.given.1)
 
 same_length : tie.Need-shape_of-room
 same_length c = search rules

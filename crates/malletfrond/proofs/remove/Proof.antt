@@ -1,5 +1,5 @@
 -- `malletfrond::remove` meets its contract: a broken room is refused, then a reading that does not stand at its place; any other is taken out there, as
--- `removes-found` says. Assumes nothing.
+-- `removes_found` says. Assumes nothing.
 use mathlib.Core.Bool.{true, false}
 use mathlib.Core.Path.{◌≡◌, sym, ◌∙◌}
 use native.Mathlib.Omega.{arith}
@@ -9,8 +9,8 @@ use lib.Dec.{lit≤}
 use Rattle.reading.specs.declared.Reading.{Reading}
 use Rattle.room.specs.Broken.{broken}
 use Rattle.step.proofs.Lending.{in_room}
-use Rattle.malletfrond.proofs.LookedUp.{LookedUp, looked_up, parts-lent, found-low, removes-found}
-use Rattle.malletfrond.proofs.RemoveLaws.{removes-absent}
+use Rattle.malletfrond.proofs.LookedUp.{LookedUp, looked_up, parts-lent, found-low, removes_found}
+use Rattle.malletfrond.proofs.RemoveLaws.{removes_absent}
 use Rattle.malletfrond.proofs.StepLaws.{steps-broken}
 use Rattle.malletfrond.proofs.remove.Statement.{statement}
 use Rattle.malletfrond.proofs.remove.Tie as tie
@@ -52,8 +52,8 @@ asked c = c.before.before.before
 
 -- ---- the needs
 
-is-broken_requires : tie.Need-is_broken-requires
-is-broken_requires c κs = search rules
+is_broken_requires : tie.Need-is_broken-requires
+is_broken_requires c κs = search rules
 
 same_length : tie.Need-shape_of-room-then-is_broken
 same_length c = search rules
@@ -61,8 +61,8 @@ same_length c = search rules
 returns : tie.Need-returns-then-is_broken
 returns c = steps-broken _ _ (sym c.before.is_broken.ensures ∙ c.if-is_broken.true)
 
-two-at_requires : tie.Need-two_at-n-requires
-two-at_requires c κs = in_room _ (intact c.before) (lit≤ tt)
+two_at_requires : tie.Need-two_at-n-requires
+two_at_requires c κs = in_room _ (intact c.before) (lit≤ tt)
 
 sub_rank_of : tie.Need-slice_bounds-rank_of-count
 sub_rank_of c = search rules
@@ -85,8 +85,8 @@ part_rank_of_end_2 c = in_room _ (intact (read c.before.before)) (lit≤ tt)
 rank_of_requires : tie.Need-rank_of-p-requires
 rank_of_requires c κs = let a = c.before.before.before in parts-lent _ (intact (read a)) a.two_at-n.ensures.0
 
-sub_stands-at : tie.Need-slice_bounds-stands_at-count
-sub_stands-at c = search rules
+sub_stands_at : tie.Need-slice_bounds-stands_at-count
+sub_stands_at c = search rules
 
 part-stands-at-start : tie.Need-slice_bounds-stands_at-start
 part-stands-at-start c = search rules
@@ -94,29 +94,29 @@ part-stands-at-start c = search rules
 part-stands-at-end : tie.Need-slice_bounds-stands_at-end
 part-stands-at-end c = in_room _ (intact (read (ranked c.before))) (lit≤ tt)
 
-sub_stands-at_2 : tie.Need-slice_bounds-stands_at-count-2
-sub_stands-at_2 c = search rules
+sub_stands_at_2 : tie.Need-slice_bounds-stands_at-count-2
+sub_stands_at_2 c = search rules
 
-part-stands-at-start_2 : tie.Need-slice_bounds-stands_at-start-2
-part-stands-at-start_2 c = search rules
+part-stands-at_start_2 : tie.Need-slice_bounds-stands_at-start-2
+part-stands-at_start_2 c = search rules
 
-part-stands-at-end_2 : tie.Need-slice_bounds-stands_at-end-2
-part-stands-at-end_2 c = in_room _ (intact (read (ranked c.before.before))) (lit≤ tt)
+part-stands-at_end_2 : tie.Need-slice_bounds-stands_at-end-2
+part-stands-at_end_2 c = in_room _ (intact (read (ranked c.before.before))) (lit≤ tt)
 
-stands-at_requires : tie.Need-stands_at-requires
-stands-at_requires c κs = let a = ranked c.before.before.before in parts-lent _ (intact (read a)) a.two_at-n.ensures.0
+stands_at_requires : tie.Need-stands_at-requires
+stands_at_requires c κs = let a = ranked c.before.before.before in parts-lent _ (intact (read a)) a.two_at-n.ensures.0
 
-same-length_2 : tie.Need-shape_of-room-then-not-stands_at
-same-length_2 c = search rules
+same_length_2 : tie.Need-shape_of-room-then-not-stands_at
+same_length_2 c = search rules
 
 returns_2 : tie.Need-returns-then-not-stands_at
-returns_2 c = let k = looks c.before in removes-absent _ _ k.p_is k.whole (k.found-is ∙ not-true _ c.if-not-stands_at.true-raw)
+returns_2 c = let k = looks c.before in removes_absent _ _ k.p_is k.whole (k.found_is ∙ not-true _ c.if-not-stands_at.true-raw)
 
 complete_of_requires : tie.Need-complete_of-before-requires
 complete_of_requires c κs = (looks c.before.before).whole
 
-remove-at_requires : tie.Need-remove_at-after-requires
-remove-at_requires c κs =
+remove_at_requires : tie.Need-remove_at-after-requires
+remove_at_requires c κs =
     let k = looks (asked c).before in
     let low = found-low k (found (asked c)) in
     (k.whole, omega arith)
@@ -131,23 +131,23 @@ sub_t16 c =
 more_than_requires : tie.Need-more_than-requires
 more_than_requires c κs = search rules
 
-same-length_3 : tie.Need-shape_of-room
-same-length_3 c = search rules
+same_length_3 : tie.Need-shape_of-room
+same_length_3 c = search rules
 
 returns_3 : tie.Need-returns
 returns_3 c =
     let w = c.before.before.before in
     let e = asked w.before in
-    removes-found (looks e.before) (found e) w.remove_at-after.ensures w.before.before.complete_of-before.ensures c.more_than.ensures
+    removes_found (looks e.before) (found e) w.remove_at-after.ensures w.before.before.complete_of-before.ensures c.more_than.ensures
 
 pub remove_spec : {M : Type 1} → statement M
 remove_spec =
     tie.close
     (tie.spec
-    is-broken_requires
+    is_broken_requires
     same_length
     returns
-    two-at_requires
+    two_at_requires
     sub_rank_of
     part_rank_of_start
     part_rank_of_end
@@ -155,18 +155,18 @@ remove_spec =
     part_rank_of_start_2
     part_rank_of_end_2
     rank_of_requires
-    sub_stands-at
+    sub_stands_at
     part-stands-at-start
     part-stands-at-end
-    sub_stands-at_2
-    part-stands-at-start_2
-    part-stands-at-end_2
-    stands-at_requires
-    same-length_2
+    sub_stands_at_2
+    part-stands-at_start_2
+    part-stands-at_end_2
+    stands_at_requires
+    same_length_2
     returns_2
     complete_of_requires
-    remove-at_requires
+    remove_at_requires
     sub_t16
     more_than_requires
-    same-length_3
+    same_length_3
     returns_3)

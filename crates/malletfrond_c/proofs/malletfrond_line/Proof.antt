@@ -22,8 +22,8 @@ same_length c = search rules
 returns : tie.Need-returns
 returns c = line-written c.before.before.before.before.before.line.ensures _ c.before.answer.given.1
 
-same-length_2 : tie.Need-same-length-2
-same-length_2 c = search rules
+same_length_2 : tie.Need-same-length-2
+same_length_2 c = search rules
 
 returns_2 : tie.Need-returns-2
 returns_2 c = line_refused c.before.before.before.before.before.line.ensures _ c.before.answer2.given.1
@@ -38,5 +38,5 @@ malletfrond_line_spec =
     cast_result
     same_length
     returns
-    same-length_2
+    same_length_2
     returns_2)

@@ -1,6 +1,6 @@
 -- `malletfrond_c::malletfrond_open` meets its contract: `open` keeps its promise, and each arm tells its case of the answer. Assumes nothing.
 use borrow.Author.Rules.{rules}
-use Rattle.malletfrond_c.proofs.Exported.{opened, open-refused}
+use Rattle.malletfrond_c.proofs.Exported.{opened, open_refused}
 use Rattle.malletfrond_c.proofs.malletfrond_open.Statement.{statement}
 use Rattle.malletfrond_c.proofs.malletfrond_open.Tie as tie
 
@@ -22,11 +22,11 @@ same_length c = search rules
 returns : tie.Need-returns
 returns c = opened c.before.before.before.before.«open».ensures _ c.enum_told.given.1
 
-same-length_2 : tie.Need-same-length-2
-same-length_2 c = search rules
+same_length_2 : tie.Need-same-length-2
+same_length_2 c = search rules
 
 returns_2 : tie.Need-returns-2
-returns_2 c = open-refused c.before.before.before.before.before.«open».ensures _ c.before.answer.given.1
+returns_2 c = open_refused c.before.before.before.before.before.«open».ensures _ c.before.answer.given.1
 
 pub malletfrond_open_spec : {M : Type 1} → statement M
 malletfrond_open_spec =
@@ -38,5 +38,5 @@ malletfrond_open_spec =
     cast_result
     same_length
     returns
-    same-length_2
+    same_length_2
     returns_2)

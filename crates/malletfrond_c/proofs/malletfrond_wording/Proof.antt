@@ -4,8 +4,8 @@ use Rattle.malletfrond_c.proofs.Exported.{wording-found, wording-refused}
 use Rattle.malletfrond_c.proofs.malletfrond_wording.Statement.{statement}
 use Rattle.malletfrond_c.proofs.malletfrond_wording.Tie as tie
 
-wording-place_requires : tie.Need-wording-place-requires
-wording-place_requires c κs = search rules
+wording_place_requires : tie.Need-wording-place-requires
+wording_place_requires c κs = search rules
 
 enum_known_found : tie.Need-enum-known-found
 enum_known_found c = search rules
@@ -26,7 +26,7 @@ pub malletfrond_wording_spec : {M : Type 1} → statement M
 malletfrond_wording_spec =
     tie.close
     (tie.spec
-    wording-place_requires
+    wording_place_requires
     enum_known_found
     enum_known_found_2
     cast_result

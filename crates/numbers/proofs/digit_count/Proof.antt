@@ -5,12 +5,12 @@ use mathlib.Core.Path.{◌≡◌}
 use native.Mathlib.Omega.{arith}
 use lib.ListN.{length}
 use Rattle.numbers.specs.Digits.{digits}
-use Rattle.numbers.proofs.Digits.{length-digits-small, length-digits_from}
+use Rattle.numbers.proofs.Digits.{length-digits-small, length_digits_from}
 use Rattle.numbers.proofs.digit_count.Statement.{statement}
 use Rattle.numbers.proofs.digit_count.Tie as tie
 
 counted : (k x : ℕ) → k < 10 → 10 ^ k ≤ x → x < 10 ^ suc k → (suc k ≡ length (digits x)) × (suc k ≤ 10)
-counted k x few l h = omega (arith, length-digits_from k x l h)
+counted k x few l h = omega (arith, length_digits_from k x l h)
 
 returns : tie.Need-returns-then-x-lt10
 returns c = omega (arith, length-digits-small c.before.args.x (omega arith))

@@ -8,7 +8,7 @@ use native.Mathlib.Omega.{arith}
 use borrow.Author.Rules.{rules}
 use lib.ListN.{length-set}
 use Rattle.numbers.specs.BigEndian.{bytes}
-use Rattle.numbers.proofs.Spliced.{sets-spliced}
+use Rattle.numbers.proofs.Spliced.{sets_spliced}
 use Rattle.numbers.proofs.put_four.Statement.{statement}
 use Rattle.numbers.proofs.put_four.Tie as tie
 
@@ -55,7 +55,7 @@ returns c =
     let first : x / 256 / 256 / 256 % 256 ≡ x / 16777216 = omega arith in
     let second : x / 256 / 256 % 256 ≡ x / 65536 % 256 = omega arith in
     rw (first, second, add-one, add-two, add_three)
-    (sets-spliced c.args.out.now c.args.at (x / 16777216 ∷ x / 65536 % 256 ∷ x / 256 % 256 ∷ x % 256 ∷ []) (omega arith))
+    (sets_spliced c.args.out.now c.args.at (x / 16777216 ∷ x / 65536 % 256 ∷ x / 256 % 256 ∷ x % 256 ∷ []) (omega arith))
 
 pub put_four_spec : {M : Type 1} → statement M
 put_four_spec =

@@ -8,7 +8,7 @@ use native.Mathlib.Omega.{arith}
 use borrow.Author.Rules.{rules}
 use lib.ListN.{length-set}
 use Rattle.numbers.specs.BigEndian.{bytes}
-use Rattle.numbers.proofs.Spliced.{sets-spliced}
+use Rattle.numbers.proofs.Spliced.{sets_spliced}
 use Rattle.numbers.proofs.put_two.Statement.{statement}
 use Rattle.numbers.proofs.put_two.Tie as tie
 
@@ -35,7 +35,7 @@ unfolding bytes
 returns c =
     let x = c.args.x in
     let first : x / 256 % 256 ≡ x / 256 = omega arith in
-    rw (first, add-one) (sets-spliced c.args.out.now c.args.at (x / 256 ∷ x % 256 ∷ []) (omega arith))
+    rw (first, add-one) (sets_spliced c.args.out.now c.args.at (x / 256 ∷ x % 256 ∷ []) (omega arith))
 
 pub put_two_spec : {M : Type 1} → statement M
 put_two_spec =

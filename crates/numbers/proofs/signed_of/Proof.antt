@@ -3,7 +3,7 @@
 use Prim.Native.Nat.{◌-◌}
 use native.Mathlib.Omega.{arith}
 use borrow.Author.Rules.{rules}
-use Rattle.numbers.proofs.Signed.{signed_low, minus-fits, signed_high}
+use Rattle.numbers.proofs.Signed.{signed_low, minus_fits, signed_high}
 use Rattle.numbers.proofs.signed_of.Statement.{statement}
 use Rattle.numbers.proofs.signed_of.Tie as tie
 
@@ -17,7 +17,7 @@ cast_result_2 : tie.Need-overflow_cast-result-else-n-lt9223372036854775808
 cast_result_2 c = search rules
 
 sub_result : tie.Need-overflow_sub-result
-sub_result c = minus-fits (0xffff_ffff_ffff_ffff - c.before.args.n) (omega arith)
+sub_result c = minus_fits (0xffff_ffff_ffff_ffff - c.before.args.n) (omega arith)
 
 returns : tie.Need-returns-then-n-lt9223372036854775808
 returns c = signed_low c.before.args.n c.if-n-lt9223372036854775808.true

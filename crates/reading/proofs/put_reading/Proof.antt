@@ -12,14 +12,14 @@ mul_at c = search rules
 put_four_requires : tie.Need-put_four-requires
 put_four_requires c κs = search rules
 
-add-put_four : tie.Need-overflow_add-at
-add-put_four c = search rules
+add_put_four : tie.Need-overflow_add-at
+add_put_four c = search rules
 
 put_four_requires_2 : tie.Need-put_four-requires-2
 put_four_requires_2 c κs = search rules
 
-add-put_four_2 : tie.Need-overflow_add-at-2
-add-put_four_2 c = search rules
+add_put_four_2 : tie.Need-overflow_add-at-2
+add_put_four_2 c = search rules
 
 put_four_requires_3 : tie.Need-put_four-requires-3
 put_four_requires_3 c κs = search rules
@@ -41,9 +41,9 @@ put_reading_spec =
     (tie.spec
     mul_at
     put_four_requires
-    add-put_four
+    add_put_four
     put_four_requires_2
-    add-put_four_2
+    add_put_four_2
     put_four_requires_3
     same_length
     returns)

@@ -20,8 +20,8 @@ by_wording c =
     let printed = ap printable (sym c.before.wording_of.ensures) ∙ sym c.all_printable.ensures in
     simp (finished c.before.before.before.before.before.before, lt-leb _ _ c.before.before.before.before.if-s-ge-MOST_RULES.false, lt-leb _ _ c.before.before.if-number-s.false, printed)
 
-is-unfinished_requires : tie.Need-is_unfinished-requires
-is-unfinished_requires c κs = search rules
+is_unfinished_requires : tie.Need-is_unfinished-requires
+is_unfinished_requires c κs = search rules
 
 returns : tie.Need-returns-then-is_unfinished
 unfolding rule_judged
@@ -38,8 +38,8 @@ returns_3 c = simp (finished c.before.before.before.before, lt-leb _ _ c.before.
 wording_of_requires : tie.Need-wording_of-requires
 wording_of_requires c κs = search rules
 
-all-printable_requires : tie.Need-all_printable-requires
-all-printable_requires c κs = search rules
+all_printable_requires : tie.Need-all_printable-requires
+all_printable_requires c κs = search rules
 
 returns_4 : tie.Need-returns-then-all_printable
 returns_4 c = sym (by_wording c.before ∙ simp c.if-all_printable.true)
@@ -51,11 +51,11 @@ pub judge_rule_spec : {M : Type 1} → statement M
 judge_rule_spec =
     tie.close
     (tie.spec
-    is-unfinished_requires
+    is_unfinished_requires
     returns
     returns_2
     returns_3
     wording_of_requires
-    all-printable_requires
+    all_printable_requires
     returns_4
     returns_5)

@@ -21,11 +21,11 @@ returns c = simp (lt-leb _ _ c.before.if-body-lt26.true)
 sub_result_2 : tie.Need-slice_bounds-result-count-2
 sub_result_2 c = search rules
 
-part-result-start_2 : tie.Need-slice_bounds-result-start-2
-part-result-start_2 c = search rules
+part-result_start_2 : tie.Need-slice_bounds-result-start-2
+part-result_start_2 c = search rules
 
-part-result-end_2 : tie.Need-slice_bounds-result-end-2
-part-result-end_2 c = search rules
+part-result_end_2 : tie.Need-slice_bounds-result-end-2
+part-result_end_2 c = search rules
 
 returns_2 : tie.Need-returns
 unfolding wording_of
@@ -40,6 +40,6 @@ wording_of_spec =
     part-result-end
     returns
     sub_result_2
-    part-result-start_2
-    part-result-end_2
+    part-result_start_2
+    part-result_end_2
     returns_2)

@@ -1,4 +1,4 @@
-use Rattle.book.proofs.Steps.{close-accepted, close-refused, close_on}
+use Rattle.book.proofs.Steps.{close_accepted, close_refused, close_on}
 -- `book::reader::close` meets its contract, case by case. Assumes nothing.
 use borrow.Author.Rules.{rules}
 use Rattle.book.proofs.reader.close.Statement.{statement}
@@ -25,12 +25,12 @@ no_places_requires_2 c κs = search rules
 returns : tie.Need-returns-in-Accepted
 returns c =
     let a = c.before.before.before.before.before.args in
-    close-accepted a.p _ a.step c.before.before.before.step-1.given.1 _ _ c.enum_told-1.given.1
+    close_accepted a.p _ a.step c.before.before.before.step-1.given.1 _ _ c.enum_told-1.given.1
 
 returns_2 : tie.Need-returns-in-Refused
 returns_2 c =
     let a = c.before.before.before.before.before.before.args in
-    close-refused a.p _ a.step c.before.before.before.before.step-1.given.1 _ c.no_places.ensures _ _ c.before.enum_told-in-Refused-1.given.1
+    close_refused a.p _ a.step c.before.before.before.before.step-1.given.1 _ c.no_places.ensures _ _ c.before.enum_told-in-Refused-1.given.1
 
 returns_3 : tie.Need-returns-in-On
 returns_3 c =

@@ -10,8 +10,8 @@ returns : tie.Need-returns-then-body-lt6
 unfolding constant_body
 returns c = whole-cut _ _ _ _ c.if-body-lt6.true
 
-uint-at_requires : tie.Need-uint_at-number-requires
-uint-at_requires c κs = search rules
+uint_at_requires : tie.Need-uint_at-number-requires
+uint_at_requires c κs = search rules
 
 cast_number : tie.Need-overflow_cast-number
 cast_number c = search rules
@@ -31,7 +31,7 @@ constant_body_spec =
     tie.close
     (tie.spec
     returns
-    uint-at_requires
+    uint_at_requires
     cast_number
     shared_slice_read_t8
     shared_slice_read_t10

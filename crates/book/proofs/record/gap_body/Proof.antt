@@ -15,14 +15,14 @@ returns : tie.Need-returns-then-body-lt19
 unfolding gap_body
 returns c = whole-cut _ _ _ _ c.if-body-lt19.true
 
-uint-at_requires : tie.Need-uint_at-requires
-uint-at_requires c κs = search rules
+uint_at_requires : tie.Need-uint_at-requires
+uint_at_requires c κs = search rules
 
 signed_of_requires : tie.Need-signed_of-low-requires
 signed_of_requires c κs = search rules
 
-uint-at_requires_2 : tie.Need-uint_at-requires-2
-uint-at_requires_2 c κs = search rules
+uint_at_requires_2 : tie.Need-uint_at-requires-2
+uint_at_requires_2 c κs = search rules
 
 signed_of_requires_2 : tie.Need-signed_of-high-requires
 signed_of_requires_2 c κs = search rules
@@ -52,9 +52,9 @@ gap_body_spec =
     tie.close
     (tie.spec
     returns
-    uint-at_requires
+    uint_at_requires
     signed_of_requires
-    uint-at_requires_2
+    uint_at_requires_2
     signed_of_requires_2
     shared_slice_read_t9
     shared_slice_read_t11

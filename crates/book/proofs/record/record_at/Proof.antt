@@ -6,7 +6,7 @@ use native.Mathlib.Omega.{arith}
 use borrow.Author.Rules.{rules}
 use lib.ListN.{drop, get_or}
 use Rattle.book.specs.Record.{rule_body, constant_body, position_body, gap_body, by_kind}
-use Rattle.book.proofs.RecordLaws.{record_at-past, recordAt-kind, recordAt-body, by_kind-unknown}
+use Rattle.book.proofs.RecordLaws.{record_at-past, record_at_kind, record_at_body, by_kind-unknown}
 use Rattle.book.proofs.record.record_at.Statement.{statement}
 use Rattle.book.proofs.record.record_at.Tie as tie
 
@@ -44,37 +44,37 @@ returns_2 : tie.Need-returns-in-1
 unfolding by_kind
 returns_2 c =
     let a = c.before.before.before.before.before.before.args in
-    recordAt-body a.book.now a.at (omega arith) rule_body 1 c.rule_body.result (λ b. refl) c.before.in-1.keys1 c.rule_body.ensures
+    record_at_body a.book.now a.at (omega arith) rule_body 1 c.rule_body.result (λ b. refl) c.before.in-1.keys1 c.rule_body.ensures
 
 returns_3 : tie.Need-returns-in-2
 unfolding by_kind
 returns_3 c =
     let a = c.before.before.before.before.before.args in
-    recordAt-kind a.book.now a.at (omega arith) 2 c.in-2.keys2
+    record_at_kind a.book.now a.at (omega arith) 2 c.in-2.keys2
 
 returns_4 : tie.Need-returns-in-3
 unfolding by_kind
 returns_4 c =
     let a = c.before.before.before.before.before.before.args in
-    recordAt-body a.book.now a.at (omega arith) constant_body 3 c.constant_body.result (λ b. refl) c.before.in-3.keys3 c.constant_body.ensures
+    record_at_body a.book.now a.at (omega arith) constant_body 3 c.constant_body.result (λ b. refl) c.before.in-3.keys3 c.constant_body.ensures
 
 returns_5 : tie.Need-returns-in-4
 unfolding by_kind
 returns_5 c =
     let a = c.before.before.before.before.before.before.args in
-    recordAt-body a.book.now a.at (omega arith) position_body 4 c.position_body.result (λ b. refl) c.before.in-4.keys4 c.position_body.ensures
+    record_at_body a.book.now a.at (omega arith) position_body 4 c.position_body.result (λ b. refl) c.before.in-4.keys4 c.position_body.ensures
 
 returns_6 : tie.Need-returns-in-5
 unfolding by_kind
 returns_6 c =
     let a = c.before.before.before.before.before.before.args in
-    recordAt-body a.book.now a.at (omega arith) gap_body 5 c.gap_body.result (λ b. refl) c.before.in-5.keys5 c.gap_body.ensures
+    record_at_body a.book.now a.at (omega arith) gap_body 5 c.gap_body.result (λ b. refl) c.before.in-5.keys5 c.gap_body.ensures
 
 returns_7 : tie.Need-returns-in-9
 unfolding by_kind
 returns_7 c =
     let a = c.before.before.before.before.before.args in
-    recordAt-kind a.book.now a.at (omega arith) 9 c.in-9.keys6
+    record_at_kind a.book.now a.at (omega arith) 9 c.in-9.keys6
 
 returns_8 : tie.Need-returns-in_default
 returns_8 c =
@@ -82,7 +82,7 @@ returns_8 c =
     let r = c.in_default.rest in
     let k = get_or a.book.now a.at 0 in
     by_kind-unknown k (drop (a.at + 1) a.book.now) a.at r.0.0.0.0.0.1 r.0.0.0.0.1 r.0.0.0.1 r.0.0.1 r.0.1 r.1
-    ∙ recordAt-kind a.book.now a.at (omega arith) k refl
+    ∙ record_at_kind a.book.now a.at (omega arith) k refl
 
 pub record_at_spec : {M : Type 1} → statement M
 record_at_spec =

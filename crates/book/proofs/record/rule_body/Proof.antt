@@ -10,8 +10,8 @@ returns : tie.Need-returns-then-body-lt26
 unfolding rule_body
 returns c = whole-cut _ _ _ _ c.if-body-lt26.true
 
-uint-at_requires : tie.Need-uint_at-number-requires
-uint-at_requires c κs = search rules
+uint_at_requires : tie.Need-uint_at-number-requires
+uint_at_requires c κs = search rules
 
 cast_number : tie.Need-overflow_cast-number
 cast_number c = search rules
@@ -21,4 +21,4 @@ unfolding rule_body
 returns_2 c = rw c.uint_at-number.ensures.0 (whole_is _ _ _ _ c.before.if-body-lt26.false)
 
 pub rule_body_spec : {M : Type 1} → statement M
-rule_body_spec = tie.close (tie.spec returns uint-at_requires cast_number returns_2)
+rule_body_spec = tie.close (tie.spec returns uint_at_requires cast_number returns_2)

@@ -17,11 +17,11 @@ abbrev decreases_loop : tie.decreases-loop-i
 decreases_loop book rules number at i₀ i = rules - i
 
 -- the array has so many places, and each one's record is within the book
-places-long : (s : tie.Start invariant_loop decreases_loop) → length s.args.t2 ≡ 32
-places-long s = search rules
+places_long : (s : tie.Start invariant_loop decreases_loop) → length s.args.t2 ≡ 32
+places_long s = search rules
 
 enough : (s : tie.Start invariant_loop decreases_loop) → s.args.rules ≤ length s.args.t2
-enough s = omega (arith, places-long s, s.requires.0)
+enough s = omega (arith, places_long s, s.requires.0)
 
 within : (c : tie.In-loop-i invariant_loop decreases_loop) → get_or c.before.before.before.args.t2 c.before.loop-i.i 0 + 27 ≤ length c.before.before.before.args.book.now
 within c = c.before.before.before.requires.1 c.before.loop-i.i (omega arith)
@@ -32,8 +32,8 @@ loop_holds c = (omega arith, refl)
 mul_place : tie.Need-offset_bounds-at-i invariant_loop decreases_loop
 mul_place c = omega (arith, c.before.before.before.requires.0)
 
-array_read-place : tie.Need-bounds-at-i invariant_loop decreases_loop
-array_read-place c = omega (arith, c.before.before.before.requires.0)
+array_read_place : tie.Need-bounds-at-i invariant_loop decreases_loop
+array_read_place c = omega (arith, c.before.before.before.requires.0)
 
 cast_place : tie.Need-overflow_cast-place invariant_loop decreases_loop
 cast_place c = omega (arith, within c)
@@ -41,8 +41,8 @@ cast_place c = omega (arith, within c)
 add-uint-at : tie.Need-overflow_add-place invariant_loop decreases_loop
 add-uint-at c = omega (arith, within c)
 
-uint-at_requires : tie.Need-uint_at-n-requires invariant_loop decreases_loop
-uint-at_requires c κs = omega (arith, within c)
+uint_at_requires : tie.Need-uint_at-n-requires invariant_loop decreases_loop
+uint_at_requires c κs = omega (arith, within c)
 
 add_t14 : tie.Need-overflow_add-result invariant_loop decreases_loop
 add_t14 c = omega (arith, within c.before.before)
@@ -82,10 +82,10 @@ seek_spec =
     decreases_loop
     loop_holds
     mul_place
-    array_read-place
+    array_read_place
     cast_place
     add-uint-at
-    uint-at_requires
+    uint_at_requires
     add_t14
     returns
     add_i

@@ -9,7 +9,7 @@ use lib.ListN.{length}
 use Rattle.book.specs.declared.record.Record.TheVariants.{Test}
 use Rattle.book.specs.declared.record.Test as t
 use Rattle.book.specs.Record.{record_at}
-use Rattle.book.proofs.TestsFrom.{TestsRead, no_test_read, test-within, read_none, read_more, read-over, read-full}
+use Rattle.book.proofs.TestsFrom.{TestsRead, no_test_read, test_within, read_none, read_more, read-over, read-full}
 use Rattle.book.proofs.rules.test_count.Statement.{statement}
 use Rattle.book.proofs.rules.test_count.Tie as tie
 
@@ -43,7 +43,7 @@ here : (c : tie.In-Test invariant_loop decreases_loop)
 here c = sym c.before.before.before.record_at-r.ensures ∙ c.before.r-1.given.1
 
 add-place : tie.Need-overflow_add-place invariant_loop decreases_loop
-add-place c = omega (arith, c.test_size-place.ensures, test-within _ _ _ (here c.before))
+add-place c = omega (arith, c.test_size-place.ensures, test_within _ _ _ (here c.before))
 
 add_n : tie.Need-overflow_add-n invariant_loop decreases_loop
 add_n c = omega arith

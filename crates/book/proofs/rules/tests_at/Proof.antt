@@ -6,7 +6,7 @@ use native.Mathlib.Omega.{arith}
 use borrow.Author.Rules.{rules}
 use Rattle.book.specs.declared.record.Record.TheVariants.{Test}
 use Rattle.book.specs.Record.{record_at}
-use Rattle.book.proofs.TestsFrom.{TestsFilled, no_test_read, test-within, filled_none, filled_more, filled-over, filled-full}
+use Rattle.book.proofs.TestsFrom.{TestsFilled, no_test_read, test_within, filled_none, filled_more, filled-over, filled-full}
 use Rattle.book.proofs.rules.tests_at.Statement.{statement}
 use Rattle.book.proofs.rules.tests_at.Tie as tie
 
@@ -44,7 +44,7 @@ here : (c : tie.In-Test invariant_loop decreases_loop)
 here c = sym c.before.before.before.record_at-r.ensures ∙ c.before.r-1.given.1
 
 add-place : tie.Need-overflow_add-place invariant_loop decreases_loop
-add-place c = omega (arith, c.test_size-place.ensures, test-within _ _ _ (here c.before))
+add-place c = omega (arith, c.test_size-place.ensures, test_within _ _ _ (here c.before))
 
 add_n : tie.Need-overflow_add-n invariant_loop decreases_loop
 add_n c = omega arith

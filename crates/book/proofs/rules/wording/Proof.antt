@@ -11,8 +11,8 @@ use Rattle.book.proofs.Wordings.{wording-at, wording-none}
 use Rattle.book.proofs.rules.wording.Statement.{statement}
 use Rattle.book.proofs.rules.wording.Tie as tie
 
-wording-place_requires : tie.Need-wording_place-place-requires
-wording-place_requires c κs = search rules
+wording_place_requires : tie.Need-wording_place-place-requires
+wording_place_requires c κs = search rules
 
 enum_known_place : tie.Need-enum_known-place
 enum_known_place c = search rules
@@ -48,11 +48,11 @@ add_to c = omega (arith, (here c).0)
 sub_result_2 : tie.Need-slice_bounds-result-count-2
 sub_result_2 c = search rules
 
-part-result-start_2 : tie.Need-slice_bounds-result-start-2
-part-result-start_2 c = search rules
+part-result_start_2 : tie.Need-slice_bounds-result-start-2
+part-result_start_2 c = search rules
 
-part-result-end_2 : tie.Need-slice_bounds-result-end-2
-part-result-end_2 c = (here c).0
+part-result_end_2 : tie.Need-slice_bounds-result-end-2
+part-result_end_2 c = (here c).0
 
 returns_2 : tie.Need-returns
 returns_2 c =
@@ -64,7 +64,7 @@ pub wording_spec : {M : Type 1} → statement M
 wording_spec =
     tie.close
     (tie.spec
-    wording-place_requires
+    wording_place_requires
     enum_known_place
     enum_told
     sub_result
@@ -73,6 +73,6 @@ wording_spec =
     returns
     add_to
     sub_result_2
-    part-result-start_2
-    part-result-end_2
+    part-result_start_2
+    part-result_end_2
     returns_2)

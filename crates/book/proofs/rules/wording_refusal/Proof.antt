@@ -5,8 +5,8 @@ use Rattle.book.specs.Wording.{refusal_in}
 use Rattle.book.proofs.rules.wording_refusal.Statement.{statement}
 use Rattle.book.proofs.rules.wording_refusal.Tie as tie
 
-wording-place_requires : tie.Need-wording_place-place-requires
-wording-place_requires c κs = search rules
+wording_place_requires : tie.Need-wording_place-place-requires
+wording_place_requires c κs = search rules
 
 enum_told : tie.Need-enum_told-1
 enum_told c = search rules
@@ -24,4 +24,4 @@ returns_2 c = ap refusal_in (sym c.before.place-1.given.1 ∙ c.before.before.be
 
 pub wording_refusal_spec : {M : Type 1} → statement M
 wording_refusal_spec =
-    tie.close (tie.spec wording-place_requires enum_told enum_known_place returns returns_2)
+    tie.close (tie.spec wording_place_requires enum_told enum_known_place returns returns_2)

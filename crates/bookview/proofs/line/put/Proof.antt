@@ -15,8 +15,8 @@ decreases_loop line₀ used text at₀ i₀ line at i = length text - i
 loop_holds : tie.Need-loop-init invariant_loop decreases_loop
 loop_holds c = tt
 
-shared_slice_read-put_byte : tie.Need-shared-slice-read-put-byte invariant_loop decreases_loop
-shared_slice_read-put_byte c = omega arith
+shared_slice_read_put_byte : tie.Need-shared-slice-read-put-byte invariant_loop decreases_loop
+shared_slice_read_put_byte c = omega arith
 
 put_byte_requires : tie.Need-put-byte-requires invariant_loop decreases_loop
 put_byte_requires c κs = tt
@@ -40,7 +40,7 @@ put_spec =
     invariant_loop
     decreases_loop
     loop_holds
-    shared_slice_read-put_byte
+    shared_slice_read_put_byte
     put_byte_requires
     add_i
     loop_less

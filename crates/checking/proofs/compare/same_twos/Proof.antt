@@ -21,11 +21,11 @@ decreases_loop table numbers n i₀ i = n - i
 loop_holds : tie.Need-loop-i-init invariant_loop decreases_loop
 loop_holds c = (omega arith, below_none _)
 
-mul_two-at : tie.Need-overflow_mul-i invariant_loop decreases_loop
-mul_two-at c = search rules
+mul_two_at : tie.Need-overflow_mul-i invariant_loop decreases_loop
+mul_two_at c = search rules
 
-two-at_requires : tie.Need-two_at-requires invariant_loop decreases_loop
-two-at_requires c κs = search rules
+two_at_requires : tie.Need-two_at-requires invariant_loop decreases_loop
+two_at_requires c κs = search rules
 
 mul_if1 : tie.Need-offset_bounds-numbers-i invariant_loop decreases_loop
 mul_if1 c = search rules
@@ -63,8 +63,8 @@ same_twos_spec =
     invariant_loop
     decreases_loop
     loop_holds
-    mul_two-at
-    two-at_requires
+    mul_two_at
+    two_at_requires
     mul_if1
     shared_slice_read_if1
     cast_if1

@@ -11,17 +11,17 @@ use borrow.Author.Rules.{rules}
 use lib.ListN.{length}
 use Rattle.numbers.specs.BigEndian.{uint}
 use Rattle.book.specs.Read.{read_book, placed_of}
-use Rattle.checking.specs.Checked.{Indexed, bookIn}
+use Rattle.checking.specs.Checked.{Indexed, book_in}
 use Rattle.checking.proofs.Answers.{no}
 use Rattle.checking.proofs.Numbers.{Bounds, bounds, book-read}
-use Rattle.checking.proofs.IndexLaws.{Placing, Asked, refused-index, accepted-index, index-asked}
+use Rattle.checking.proofs.IndexLaws.{Placing, Asked, refused_index, accepted_index, index_asked}
 use Rattle.checking.proofs.index.index_agrees.Statement.{statement}
 use Rattle.checking.proofs.index.index_agrees.Tie as tie
 
 abbrev start : tie.After-find_places-found → tie.Start
 start d = d.before.before.before.before
 
-found : (d : tie.After-find_places-found) → d.find_places-found.result ≡ placed_of (read_book (bookIn (start d).args.room.now))
+found : (d : tie.After-find_places-found) → d.find_places-found.result ≡ placed_of (read_book (book_in (start d).args.room.now))
 found d =
     let room = (start d).args.room.now in
     let end = ap (λ (n : ℕ). 16 + n) d.before.before.two_at-end.ensures.0 in
@@ -31,7 +31,7 @@ found d =
 known : (a : tie.In-Accepted-2) →
     Indexed (start a.before.before).args.room.now
     ↔ Placing (start a.before.before).args.room.now a.before.before.find_places-found.result.places a.answer-1.given.0.0 a.answer-1.given.0.1.0
-known a = accepted-index _ _ (found a.before.before) _ _ a.answer-1.given.1
+known a = accepted_index _ _ (found a.before.before) _ _ a.answer-1.given.1
 
 long : (d : tie.After-find_places-found) → length d.find_places-found.result.places.conditions ≡ 192
 long d = search rules
@@ -61,10 +61,10 @@ asked : (e : tie.Else-conditions-two_at) →
     Asked (start a.before.before).args.room.now a.before.before.find_places-found.result.places a.answer-1.given.0.0 a.answer-1.given.0.1.0
 asked e =
     let a = answered e in
-    index-asked _ _ (found a.before.before) _ _ a.answer-1.given.1 (bounded e) (many e).0 (many e).1
+    index_asked _ _ (found a.before.before) _ _ a.answer-1.given.1 (bounded e) (many e).0 (many e).1
 
-two-at_requires : tie.Need-two_at-end-requires
-two-at_requires c κs = let b = bounds _ c.before.requires in omega arith
+two_at_requires : tie.Need-two_at-end-requires
+two_at_requires c κs = let b = bounds _ c.before.requires in omega arith
 
 add-end : tie.Need-overflow_add-end
 add-end c = search rules
@@ -72,11 +72,11 @@ add-end c = search rules
 sub_find_places : tie.Need-slice_bounds-find_places-count
 sub_find_places c = search rules
 
-part_find_places-start : tie.Need-slice_bounds-find_places-start
-part_find_places-start c = search rules
+part_find_places_start : tie.Need-slice_bounds-find_places-start
+part_find_places_start c = search rules
 
-part_find_places-end : tie.Need-slice_bounds-find_places-end
-part_find_places-end c = let b = bounds _ c.before.before.requires in omega arith
+part_find_places_end : tie.Need-slice_bounds-find_places-end
+part_find_places_end c = let b = bounds _ c.before.before.requires in omega arith
 
 find_places_requires : tie.Need-find_places-found-requires
 find_places_requires c κs = search rules
@@ -87,20 +87,20 @@ enum_told c = search rules
 enum_known_answer : tie.Need-enum_known-answer
 enum_known_answer c = search rules
 
-two-at_requires_2 : tie.Need-two_at-requires
-two-at_requires_2 c κs = let b = bounds _ c.before.before.before.before.before.before.before.requires in omega arith
+two_at_requires_2 : tie.Need-two_at-requires
+two_at_requires_2 c κs = let b = bounds _ c.before.before.before.before.before.before.before.requires in omega arith
 
 returns : tie.Need-returns-then-rules-two_at
 returns c = no λ i. c.if-rules-two_at.true (((known c.before.before.before).0 i).rules ∙ sym c.before.two_at.ensures.0)
 
-two-at_requires_3 : tie.Need-two_at-requires-in-Accepted
-two-at_requires_3 c κs = let b = bounds _ c.before.before.before.before.before.before.before.before.before.requires in omega arith
+two_at_requires_3 : tie.Need-two_at-requires-in-Accepted
+two_at_requires_3 c κs = let b = bounds _ c.before.before.before.before.before.before.before.before.before.requires in omega arith
 
 returns_2 : tie.Need-returns-then-conditions-two_at
 returns_2 c = no λ i. c.if-conditions-two_at.true (((known c.before.before.before.before.before).0 i).conditions ∙ sym c.before.two_at-in-Accepted.ensures.0)
 
-sub_same-twos : tie.Need-slice_bounds-same_twos-count
-sub_same-twos c = search rules
+sub_same_twos : tie.Need-slice_bounds-same_twos-count
+sub_same_twos c = search rules
 
 part-same-twos-start : tie.Need-slice_bounds-same_twos-start
 part-same-twos-start c = search rules
@@ -108,19 +108,19 @@ part-same-twos-start c = search rules
 part-same-twos-end : tie.Need-slice_bounds-same_twos-end
 part-same-twos-end c = let b = bounded c.before.before.before.before in omega arith
 
-slice_aggregate_same-twos : tie.Need-slice_bounds-same_twos-end-in-Accepted
-slice_aggregate_same-twos c = search rules
+slice_aggregate_same_twos : tie.Need-slice_bounds-same_twos-end-in-Accepted
+slice_aggregate_same_twos c = search rules
 
-same-twos_requires : tie.Need-same_twos-requires
-same-twos_requires c κs = (asked c.before.before.before.before.before.before).rule-places
+same_twos_requires : tie.Need-same_twos-requires
+same_twos_requires c κs = (asked c.before.before.before.before.before.before).rule_places_are
 
 returns_3 : tie.Need-returns-then-not-same_twos
 returns_3 c =
     let e = c.before.before.before.before.before.before.before.before in
-    no λ i. false≢true (sym (not-true _ c.if-not-same_twos.true-raw) ∙ c.before.same_twos.ensures.1 ((known (answered e)).0 i).rule-places)
+    no λ i. false≢true (sym (not-true _ c.if-not-same_twos.true-raw) ∙ c.before.same_twos.ensures.1 ((known (answered e)).0 i).rule_places_are)
 
-sub_same-bytes : tie.Need-slice_bounds-same_bytes-count
-sub_same-bytes c = search rules
+sub_same_bytes : tie.Need-slice_bounds-same_bytes-count
+sub_same_bytes c = search rules
 
 part-same-bytes-start : tie.Need-slice_bounds-same_bytes-start
 part-same-bytes-start c = search rules
@@ -128,34 +128,34 @@ part-same-bytes-start c = search rules
 part-same-bytes-end : tie.Need-slice_bounds-same_bytes-end
 part-same-bytes-end c = let b = bounded (counted c) in omega arith
 
-slice_aggregate_same-bytes : tie.Need-slice_bounds-same_bytes-end-in-Accepted
-slice_aggregate_same-bytes c = search rules
+slice_aggregate_same_bytes : tie.Need-slice_bounds-same_bytes-end-in-Accepted
+slice_aggregate_same_bytes c = search rules
 
-same-bytes_requires : tie.Need-same_bytes-requires
-same-bytes_requires c κs = (asked (counted c.before.before)).rule-conditions
+same_bytes_requires : tie.Need-same_bytes-requires
+same_bytes_requires c κs = (asked (counted c.before.before)).rule_conditions_are
 
 returns_4 : tie.Need-returns-then-not-same_bytes
 returns_4 c =
     let e = counted c.before.before.before.before in
-    no λ i. false≢true (sym (not-true _ c.if-not-same_bytes.true-raw) ∙ c.before.same_bytes.ensures.1 ((known (answered e)).0 i).rule-conditions)
+    no λ i. false≢true (sym (not-true _ c.if-not-same_bytes.true-raw) ∙ c.before.same_bytes.ensures.1 ((known (answered e)).0 i).rule_conditions_are)
 
-sub_same-twos_2 : tie.Need-slice_bounds-same_twos-count-in-Accepted
-sub_same-twos_2 c = search rules
+sub_same_twos_2 : tie.Need-slice_bounds-same_twos-count-in-Accepted
+sub_same_twos_2 c = search rules
 
-part-same-twos-start_2 : tie.Need-slice_bounds-same_twos-start-in-Accepted
-part-same-twos-start_2 c = search rules
+part-same-twos_start_2 : tie.Need-slice_bounds-same_twos-start-in-Accepted
+part-same-twos_start_2 c = search rules
 
-part-same-twos-end_2 : tie.Need-slice_bounds-same_twos-end-in-Accepted-2
-part-same-twos-end_2 c = let b = bounded (counted (placed c)) in omega arith
+part-same-twos_end_2 : tie.Need-slice_bounds-same_twos-end-in-Accepted-2
+part-same-twos_end_2 c = let b = bounded (counted (placed c)) in omega arith
 
-slice_aggregate_same-twos_2 : tie.Need-slice_bounds-same_twos-end-in-Accepted-3
-slice_aggregate_same-twos_2 c = sym (long (answered (counted (placed c.before.before))).before.before)
+slice_aggregate_same_twos_2 : tie.Need-slice_bounds-same_twos-end-in-Accepted-3
+slice_aggregate_same_twos_2 c = sym (long (answered (counted (placed c.before.before))).before.before)
 
-same-twos_requires_2 : tie.Need-same_twos-requires-in-Accepted
-same-twos_requires_2 c κs = (asked (counted (placed c.before.before))).condition_places_lem
+same_twos_requires_2 : tie.Need-same_twos-requires-in-Accepted
+same_twos_requires_2 c κs = (asked (counted (placed c.before.before))).condition_places_lem
 
 returns_5 : tie.Need-returns-in-Refused
-returns_5 c = no (refused-index _ _ (found c.before.before) _ _ c.enum_told-1.given.1)
+returns_5 c = no (refused_index _ _ (found c.before.before) _ _ c.enum_told-1.given.1)
 
 returns_6 : tie.Need-returns-else-not-same_bytes
 returns_6 c =
@@ -166,8 +166,8 @@ returns_6 c =
       λ y. k.1 (record {
         rules = m.0;
         conditions = m.1;
-        rule-places = e.before.same_twos.ensures.0 (not-false _ e.if-not-same_twos.false-raw);
-        rule-conditions = d.before.same_bytes.ensures.0 (not-false _ d.if-not-same_bytes.false-raw);
+        rule_places_are = e.before.same_twos.ensures.0 (not-false _ e.if-not-same_twos.false-raw);
+        rule_conditions_are = d.before.same_bytes.ensures.0 (not-false _ d.if-not-same_bytes.false-raw);
         condition_places_lem = c.same_twos-in-Accepted.ensures.0 y;
       }),
       λ i. c.same_twos-in-Accepted.ensures.1 (k.0 i).condition_places_lem,
@@ -177,34 +177,34 @@ pub index_agrees_spec : {M : Type 1} → statement M
 index_agrees_spec =
     tie.close
     (tie.spec
-    two-at_requires
+    two_at_requires
     add-end
     sub_find_places
-    part_find_places-start
-    part_find_places-end
+    part_find_places_start
+    part_find_places_end
     find_places_requires
     enum_told
     enum_known_answer
-    two-at_requires_2
+    two_at_requires_2
     returns
-    two-at_requires_3
+    two_at_requires_3
     returns_2
-    sub_same-twos
+    sub_same_twos
     part-same-twos-start
     part-same-twos-end
-    slice_aggregate_same-twos
-    same-twos_requires
+    slice_aggregate_same_twos
+    same_twos_requires
     returns_3
-    sub_same-bytes
+    sub_same_bytes
     part-same-bytes-start
     part-same-bytes-end
-    slice_aggregate_same-bytes
-    same-bytes_requires
+    slice_aggregate_same_bytes
+    same_bytes_requires
     returns_4
-    sub_same-twos_2
-    part-same-twos-start_2
-    part-same-twos-end_2
-    slice_aggregate_same-twos_2
-    same-twos_requires_2
+    sub_same_twos_2
+    part-same-twos_start_2
+    part-same-twos_end_2
+    slice_aggregate_same_twos_2
+    same_twos_requires_2
     returns_5
     returns_6)

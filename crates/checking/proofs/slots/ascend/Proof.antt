@@ -10,7 +10,7 @@ use borrow.Author.Rules.{rules}
 use lib.ListN.{get_or}
 use Rattle.reading.specs.Reading.{is_less, reading_at}
 use Rattle.checking.proofs.Answers.{yes, no}
-use Rattle.checking.proofs.Fronts.{ascending-front}
+use Rattle.checking.proofs.Fronts.{ascending_front}
 use Rattle.checking.proofs.slots.ascend.Statement.{statement}
 use Rattle.checking.proofs.slots.ascend.Tie as tie
 
@@ -23,29 +23,29 @@ decreases_loop order slots n i₀ i = n - i
 loop_holds : tie.Need-loop-i-init invariant_loop decreases_loop
 loop_holds c = (omega arith, λ k h some. absurd (omega arith))
 
-sub_reading-at : tie.Need-overflow_sub-i invariant_loop decreases_loop
-sub_reading-at c = search rules
+sub_reading_at : tie.Need-overflow_sub-i invariant_loop decreases_loop
+sub_reading_at c = search rules
 
-shared_slice_read-reading-at : tie.Need-bounds-order-i invariant_loop decreases_loop
-shared_slice_read-reading-at c = search rules
+shared_slice_read_reading-at : tie.Need-bounds-order-i invariant_loop decreases_loop
+shared_slice_read_reading-at c = search rules
 
-cast_reading-at : tie.Need-overflow_cast-order invariant_loop decreases_loop
-cast_reading-at c = omega (arith, c.shared_slice_known-in-loop-i-1.given (c.before.before.loop-i.i - 1))
+cast_reading_at : tie.Need-overflow_cast-order invariant_loop decreases_loop
+cast_reading_at c = omega (arith, c.shared_slice_known-in-loop-i-1.given (c.before.before.loop-i.i - 1))
 
-reading-at_requires : tie.Need-reading_at-a-requires invariant_loop decreases_loop
-reading-at_requires c κs = omega (arith, c.shared_slice_known-in-loop-i-1.given (c.before.before.loop-i.i - 1))
+reading_at_requires : tie.Need-reading_at-a-requires invariant_loop decreases_loop
+reading_at_requires c κs = omega (arith, c.shared_slice_known-in-loop-i-1.given (c.before.before.loop-i.i - 1))
 
-shared_slice_read-reading-at_2 : tie.Need-bounds-order-i-in-loop-i invariant_loop decreases_loop
-shared_slice_read-reading-at_2 c = search rules
+shared_slice_read_reading_at_2 : tie.Need-bounds-order-i-in-loop-i invariant_loop decreases_loop
+shared_slice_read_reading_at_2 c = search rules
 
-cast_reading-at_2 : tie.Need-overflow_cast-order-in-loop-i invariant_loop decreases_loop
-cast_reading-at_2 c = omega (arith, c.shared_slice_known-in-loop-i-2-1.given c.before.before.before.before.loop-i.i)
+cast_reading_at_2 : tie.Need-overflow_cast-order-in-loop-i invariant_loop decreases_loop
+cast_reading_at_2 c = omega (arith, c.shared_slice_known-in-loop-i-2-1.given c.before.before.before.before.loop-i.i)
 
-reading-at_requires_2 : tie.Need-reading_at-b-requires invariant_loop decreases_loop
-reading-at_requires_2 c κs = omega (arith, c.shared_slice_known-in-loop-i-2-1.given c.before.before.before.before.loop-i.i)
+reading_at_requires_2 : tie.Need-reading_at-b-requires invariant_loop decreases_loop
+reading_at_requires_2 c κs = omega (arith, c.shared_slice_known-in-loop-i-2-1.given c.before.before.before.before.loop-i.i)
 
-is-less_requires : tie.Need-is_less-requires invariant_loop decreases_loop
-is-less_requires c κs = search rules
+is_less_requires : tie.Need-is_less-requires invariant_loop decreases_loop
+is_less_requires c κs = search rules
 
 -- what was compared: the readings of the slot before and of this one
 compared : (c : tie.After-is_less invariant_loop decreases_loop) →
@@ -59,7 +59,7 @@ returns c =
     let s = c.before.before.before.before.before.before.before.before.before.before in
     let i = c.before.before.before.before.before.before.before.loop-i.i in
     no λ e.
-    let h = (ascending-front (reading_at s.args.slots.now) s.args.n s.args.order.now (omega arith)).0 e i (omega arith) (omega arith) in
+    let h = (ascending_front (reading_at s.args.slots.now) s.args.n s.args.order.now (omega arith)).0 e i (omega arith) (omega arith) in
     false≢true (sym (not-true _ c.if-not-is_less.true-raw) ∙ compared c.before ∙ h)
 
 add_i : tie.Need-overflow_add-i invariant_loop decreases_loop
@@ -74,7 +74,7 @@ loop_again c = (omega arith, below_more _ _ c.before.before.before.before.before
 returns_2 : tie.Need-returns invariant_loop decreases_loop
 returns_2 c =
     let s = c.before.before.before.before in
-    yes ((ascending-front (reading_at s.args.slots.now) s.args.n s.args.order.now (omega arith)).1 λ k l. c.before.loop-i.invariant.1 k (omega arith))
+    yes ((ascending_front (reading_at s.args.slots.now) s.args.n s.args.order.now (omega arith)).1 λ k l. c.before.loop-i.invariant.1 k (omega arith))
 
 pub ascend_spec : {M : Type 1} → statement M
 ascend_spec =
@@ -83,14 +83,14 @@ ascend_spec =
     invariant_loop
     decreases_loop
     loop_holds
-    sub_reading-at
-    shared_slice_read-reading-at
-    cast_reading-at
-    reading-at_requires
-    shared_slice_read-reading-at_2
-    cast_reading-at_2
-    reading-at_requires_2
-    is-less_requires
+    sub_reading_at
+    shared_slice_read_reading-at
+    cast_reading_at
+    reading_at_requires
+    shared_slice_read_reading_at_2
+    cast_reading_at_2
+    reading_at_requires_2
+    is_less_requires
     returns
     add_i
     loop_less

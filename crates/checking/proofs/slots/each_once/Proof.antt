@@ -6,7 +6,7 @@ use borrow.Author.Rules.{rules}
 use lib.Seq.{take_all}
 use lib.ListN.{length, take}
 use Rattle.checking.proofs.Answers.{yes, no}
-use Rattle.checking.proofs.Noted.{Noted, noted-none, noted-twice, noted_more}
+use Rattle.checking.proofs.Noted.{Noted, noted-none, noted_twice, noted_more}
 use Rattle.checking.proofs.slots.each_once.Statement.{statement}
 use Rattle.checking.proofs.slots.each_once.Tie as tie
 
@@ -32,7 +32,7 @@ returns : tie.Need-returns-then-seen-s invariant_loop decreases_loop
 returns c =
     let l = c.before.before.before.loop-i in
     let small = c.before.shared_slice_known-1.given l.i in
-    no (noted-twice c.before.before.before.before.args.order.now l.i (omega arith) l.seen l.invariant.1 (omega arith) c.if-seen-s.true)
+    no (noted_twice c.before.before.before.before.args.order.now l.i (omega arith) l.seen l.invariant.1 (omega arith) c.if-seen-s.true)
 
 array_write_seen : tie.Need-bounds-seen-s-in-loop-i invariant_loop decreases_loop
 array_write_seen c = omega (arith, c.before.shared_slice_known-1.given c.before.before.before.loop-i.i)

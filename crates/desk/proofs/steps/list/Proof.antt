@@ -21,8 +21,8 @@ slice_aggregate_put c = search rules
 put_requires : tie.Need-put-requires invariant_loop decreases_loop
 put_requires c κs = tt
 
-put-number_requires : tie.Need-put-number-requires invariant_loop decreases_loop
-put-number_requires c κs = tt
+put_number_requires : tie.Need-put-number-requires invariant_loop decreases_loop
+put_number_requires c κs = tt
 
 slice_aggregate_put_2 : tie.Need-slice-aggregate-put-2 invariant_loop decreases_loop
 slice_aggregate_put_2 c = search rules
@@ -57,7 +57,7 @@ list_spec =
     complaints_requires
     slice_aggregate_put
     put_requires
-    put-number_requires
+    put_number_requires
     slice_aggregate_put_2
     put_requires_2
     loop_holds

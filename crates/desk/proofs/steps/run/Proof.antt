@@ -63,8 +63,8 @@ flush_requires c κs = tt
 same_length : tie.Need-same-length invariant_loop decreases_loop
 same_length c = omega arith
 
-same-length_2 : tie.Need-same-length-2 invariant_loop decreases_loop
-same-length_2 c = omega arith
+same_length_2 : tie.Need-same-length-2 invariant_loop decreases_loop
+same_length_2 c = omega arith
 
 returns : tie.Need-returns invariant_loop decreases_loop
 returns c = tt
@@ -88,5 +88,5 @@ run_spec =
     loop_again
     flush_requires
     same_length
-    same-length_2
+    same_length_2
     returns)

@@ -8,10 +8,10 @@ use borrow.Author.Rules.{rules}
 use lib.ListN.{length, take, get_or, set, length-set}
 use lib.Seq.{length-take-le}
 use Rattle.numbers.specs.Spliced.{spliced}
-use Rattle.numbers.proofs.Spliced.{spliced-nil}
+use Rattle.numbers.proofs.Spliced.{spliced_nil}
 use Rattle.room.proofs.Spliced.{set-take-behind}
 use Rattle.lines.specs.Line.{trimmed, ending}
-use Rattle.lines.proofs.Front.{Front, front_nil, front-byte, front-more}
+use Rattle.lines.proofs.Front.{Front, front_nil, front_byte, front_more}
 use Rattle.lines.proofs.LineLaws.{length-ending}
 use Rattle.lines.proofs.text.put_ending.Statement.{statement}
 use Rattle.lines.proofs.text.put_ending.Tie as tie
@@ -31,7 +31,7 @@ enough c =
 begun : (c : tie.Start invariant_loop decreases_loop) → let free = c.args.free.now in Front free (32 ∷ 124 ∷ []) (set (set free 0 32) 1 124) 2
 begun c =
     let h = enough c in
-    front-byte (front-byte (front_nil c.args.free.now) 32 (omega arith)) 124 (omega arith)
+    front_byte (front_byte (front_nil c.args.free.now) 32 (omega arith)) 124 (omega arith)
 
 slice_write_free : tie.Need-bounds-free-0 invariant_loop decreases_loop
 slice_write_free c = omega (arith, enough c)
@@ -40,7 +40,7 @@ slice_write_free_2 : tie.Need-bounds-free-1 invariant_loop decreases_loop
 slice_write_free_2 c = simp length-set (omega (arith, enough c))
 
 loop_holds : tie.Need-loop-i-init invariant_loop decreases_loop
-loop_holds c = (omega arith, (refl, sym (spliced-nil (set (set c.args.free.now 0 32) 1 124) 2)))
+loop_holds c = (omega arith, (refl, sym (spliced_nil (set (set c.args.free.now 0 32) 1 124) 2)))
 
 shared_slice_read_free : tie.Need-bounds-wording-i invariant_loop decreases_loop
 shared_slice_read_free c = search rules
@@ -91,8 +91,8 @@ returns c =
     let all : l.i ≡ s.args.n = omega arith in
     let shown : take l.i w ≡ trimmed w = ap (λ (k : ℕ). take k w) all ∙ s.requires.0 in
     let n : length (trimmed w) ≡ s.args.n = omega (arith, ap length s.requires.0, length-take-le s.args.n w s.requires.1.0) in
-    let body = front-more (begun s) (trimmed w) {n = s.args.n} (omega arith) (omega arith) (l.invariant.1.1 ∙ ap (spliced (set (set s.args.free.now 0 32) 1 124) 2) shown) in
-    (front-byte body 10 (omega arith)).bytes
+    let body = front_more (begun s) (trimmed w) {n = s.args.n} (omega arith) (omega arith) (l.invariant.1.1 ∙ ap (spliced (set (set s.args.free.now 0 32) 1 124) 2) shown) in
+    (front_byte body 10 (omega arith)).bytes
 
 pub put_ending_spec : {M : Type 1} → statement M
 put_ending_spec =

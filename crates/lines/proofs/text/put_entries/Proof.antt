@@ -8,7 +8,7 @@ use lib.ListN.{length, take, get_or}
 use Rattle.matching.specs.Lists.{concat_map}
 use Rattle.reading.specs.declared.Reading.{Reading}
 use Rattle.lines.specs.Line.{entry, entries}
-use Rattle.lines.proofs.Front.{Front, front_nil, front-lent, rest_long}
+use Rattle.lines.proofs.Front.{Front, front_nil, front_lent, rest_long}
 use Rattle.lines.proofs.LineLaws.{entries-more, length-entries-more}
 use Rattle.lines.proofs.text.put_entries.Statement.{statement}
 use Rattle.lines.proofs.text.put_entries.Tie as tie
@@ -23,8 +23,8 @@ loop_holds : tie.Need-loop-i-init invariant_loop decreases_loop
 unfolding concat_map
 loop_holds c = (omega arith, front_nil c.before.args.free.now)
 
-sub_put-entry : tie.Need-slice_bounds-put_entry-count invariant_loop decreases_loop
-sub_put-entry c = search rules
+sub_put_entry : tie.Need-slice_bounds-put_entry-count invariant_loop decreases_loop
+sub_put_entry c = search rules
 
 part-put-entry-start : tie.Need-slice_bounds-put_entry-start invariant_loop decreases_loop
 part-put-entry-start c = search rules
@@ -32,11 +32,11 @@ part-put-entry-start c = search rules
 part-put-entry-end : tie.Need-slice_bounds-put_entry-end invariant_loop decreases_loop
 part-put-entry-end c = search rules
 
-mul_put-entry : tie.Need-offset_bounds-readings-i invariant_loop decreases_loop
-mul_put-entry c = search rules
+mul_put_entry : tie.Need-offset_bounds-readings-i invariant_loop decreases_loop
+mul_put_entry c = search rules
 
-array_copy_out_put-entry : tie.Need-bounds-readings-i invariant_loop decreases_loop
-array_copy_out_put-entry c = search rules
+array_copy_out_put_entry : tie.Need-bounds-readings-i invariant_loop decreases_loop
+array_copy_out_put_entry c = search rules
 
 abbrev none : Reading
 none = record { line = 0; column = 0; value = 0 }
@@ -56,8 +56,8 @@ place c =
     let six = array_long s in
     omega (arith, s.requires, l.invariant.1.end, length-entries-more s.args.t2 l.i s.args.n none (omega arith) (omega arith))
 
-put-entry_requires : tie.Need-put_entry-at-requires invariant_loop decreases_loop
-put-entry_requires c κs =
+put_entry_requires : tie.Need-put_entry-at-requires invariant_loop decreases_loop
+put_entry_requires c κs =
     let l = c.before.before.before.loop-i in
     let a = c.before.before.before.before.before.args in
     rest_long l.free l.at (length (entry (get_or a.t2 l.i none))) (omega (arith, place c.before.before, l.invariant.1.long))
@@ -78,7 +78,7 @@ loop_again c =
     let s = g.before.before.before in
     let p = c.before.before.put_entry-at in
     let six = array_long s in
-    let more = front-lent l.invariant.1 (entry (get_or s.args.t2 l.i none)) (omega (arith, place g, p.ensures.0)) p.ensures in
+    let more = front_lent l.invariant.1 (entry (get_or s.args.t2 l.i none)) (omega (arith, place g, p.ensures.0)) p.ensures in
     (omega arith, rw (← entries-more s.args.t2 l.i none (omega arith)) at more)
 
 same_length : tie.Need-shape_of-free invariant_loop decreases_loop
@@ -99,12 +99,12 @@ put_entries_spec =
     invariant_loop
     decreases_loop
     loop_holds
-    sub_put-entry
+    sub_put_entry
     part-put-entry-start
     part-put-entry-end
-    mul_put-entry
-    array_copy_out_put-entry
-    put-entry_requires
+    mul_put_entry
+    array_copy_out_put_entry
+    put_entry_requires
     add_at
     add_i
     loop_less

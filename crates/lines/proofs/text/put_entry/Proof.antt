@@ -6,7 +6,7 @@ use borrow.Author.Rules.{rules}
 use lib.ListN.{length, set}
 use Rattle.numbers.specs.Digits.{digits}
 use Rattle.lines.specs.Line.{entry}
-use Rattle.lines.proofs.Front.{Front, front_nil, front-byte, front-lent, rest_long, back}
+use Rattle.lines.proofs.Front.{Front, front_nil, front_byte, front_lent, rest_long, back}
 use Rattle.lines.proofs.LineLaws.{length-entry, entry_pieces}
 use Rattle.lines.proofs.text.put_entry.Statement.{statement}
 use Rattle.lines.proofs.text.put_entry.Tie as tie
@@ -52,25 +52,25 @@ abbrev column_text : tie.Start → List ℕ
 column_text c = (line_text_lem c ++ 47 ∷ []) ++ digits c.args.r.column
 
 space_put : (c : tie.Start) → Front c.args.free.now (32 ∷ []) (with_space c) 1
-space_put c = front-byte (front_nil c.args.free.now) 32 (omega (arith, enough c))
+space_put c = front_byte (front_nil c.args.free.now) 32 (omega (arith, enough c))
 
 line-put : (c : tie.After-put_digits-at) → Front (start c).args.free.now (line_text_lem (start c)) (with_line c) (line-end c)
 line-put c =
     let s = start c in
-    front-lent (space_put s) (digits s.args.r.line) (omega (arith, enough s)) c.put_digits-at.ensures
+    front_lent (space_put s) (digits s.args.r.line) (omega (arith, enough s)) c.put_digits-at.ensures
 
 slash_put : (c : tie.After-put_digits-at) → Front (start c).args.free.now (line_text_lem (start c) ++ 47 ∷ []) (set (with_line c) (line-end c) 47) (line-end c + 1)
-slash_put c = front-byte (line-put c) 47 (omega (arith, enough (start c)))
+slash_put c = front_byte (line-put c) 47 (omega (arith, enough (start c)))
 
 column_put : (c : tie.After-put_digits-at-2) → let s = start (first c) in Front s.args.free.now (column_text s) (with_column c) (column_end c)
 column_put c =
     let s = start (first c) in
-    front-lent (slash_put (first c)) (digits s.args.r.column) (omega (arith, enough s)) c.put_digits-at-2.ensures
+    front_lent (slash_put (first c)) (digits s.args.r.column) (omega (arith, enough s)) c.put_digits-at-2.ensures
 
 slashes_put : (c : tie.After-put_digits-at-2) →
     let s = start (first c) in
     Front s.args.free.now (column_text s ++ 47 ∷ []) (set (with_column c) (column_end c) 47) (column_end c + 1)
-slashes_put c = front-byte (column_put c) 47 (omega (arith, enough (start (first c)), (first c).put_digits-at.ensures.0))
+slashes_put c = front_byte (column_put c) 47 (omega (arith, enough (start (first c)), (first c).put_digits-at.ensures.0))
 
 value_put : (c : tie.After-put_digits-at-3) →
     let s = start (first (second c)) in
@@ -79,14 +79,14 @@ value_put c =
     let s = start (first (second c)) in
     let p = second c in
     let h : column_end p + 1 + c.put_digits-at-3.result ≤ length s.args.free.now = omega (arith, enough s, (first p).put_digits-at.ensures.0, p.put_digits-at-2.ensures.0) in
-    let all = front-lent (slashes_put p) (digits s.args.r.value) h c.put_digits-at-3.ensures in
+    let all = front_lent (slashes_put p) (digits s.args.r.value) h c.put_digits-at-3.ensures in
     rw entry_pieces at all
 
 slice_write_free : tie.Need-bounds-free-0
 slice_write_free c = omega (arith, enough c.before)
 
-sub_put-digits : tie.Need-slice_bounds-put_digits-count
-sub_put-digits c = omega (arith, (space_put c.before).long, (space_put c.before).fits)
+sub_put_digits : tie.Need-slice_bounds-put_digits-count
+sub_put_digits c = omega (arith, (space_put c.before).long, (space_put c.before).fits)
 
 part-put-digits-start : tie.Need-slice_bounds-put_digits-start
 part-put-digits-start c = omega (arith, (space_put c.before).long, (space_put c.before).fits)
@@ -94,8 +94,8 @@ part-put-digits-start c = omega (arith, (space_put c.before).long, (space_put c.
 part-put-digits-end : tie.Need-slice_bounds-put_digits-end
 part-put-digits-end c = search rules
 
-put-digits_requires : tie.Need-put_digits-at-requires
-put-digits_requires c κs =
+put_digits_requires : tie.Need-put_digits-at-requires
+put_digits_requires c κs =
     let s = c.before.before in
     rest_long (with_space s) 1 (length (digits s.args.r.line)) (omega (arith, enough s, (space_put s).long))
 
@@ -105,51 +105,51 @@ add_at c = omega (arith, (line-put c.before.before).fits)
 slice_write_free_2 : tie.Need-bounds-free-at
 slice_write_free_2 c = let p = c.before.before in omega (arith, enough (start p), (line-put p).long)
 
-add-at_2 : tie.Need-overflow_add-at-2
-add-at_2 c = omega (arith, (slash_put c.before.before).fits)
+add_at_2 : tie.Need-overflow_add-at-2
+add_at_2 c = omega (arith, (slash_put c.before.before).fits)
 
-sub_put-digits_2 : tie.Need-slice_bounds-put_digits-count-2
-sub_put-digits_2 c = let s = slash_put c.before.before in omega (arith, s.long, s.fits)
+sub_put_digits_2 : tie.Need-slice_bounds-put_digits-count-2
+sub_put_digits_2 c = let s = slash_put c.before.before in omega (arith, s.long, s.fits)
 
-part-put-digits-start_2 : tie.Need-slice_bounds-put_digits-start-2
-part-put-digits-start_2 c = let s = slash_put c.before.before in omega (arith, s.long, s.fits)
+part-put-digits_start_2 : tie.Need-slice_bounds-put_digits-start-2
+part-put-digits_start_2 c = let s = slash_put c.before.before in omega (arith, s.long, s.fits)
 
-part-put-digits-end_2 : tie.Need-slice_bounds-put_digits-end-2
-part-put-digits-end_2 c = search rules
+part-put-digits_end_2 : tie.Need-slice_bounds-put_digits-end-2
+part-put-digits_end_2 c = search rules
 
-put-digits_requires_2 : tie.Need-put_digits-at-requires-2
-put-digits_requires_2 c κs =
+put_digits_requires_2 : tie.Need-put_digits-at-requires-2
+put_digits_requires_2 c κs =
     let p = c.before.before.before in
     let s = start p in
     rest_long (set (with_line p) (line-end p) 47) (line-end p + 1) (length (digits s.args.r.column)) (omega (arith, enough s, (slash_put p).long))
 
-add-at_3 : tie.Need-overflow_add-at-3
-add-at_3 c = omega (arith, (column_put c.before.before).fits)
+add_at_3 : tie.Need-overflow_add-at-3
+add_at_3 c = omega (arith, (column_put c.before.before).fits)
 
 slice_write_free_3 : tie.Need-bounds-free-at-2
 slice_write_free_3 c = let p = c.before.before in omega (arith, enough (start (first p)), (first p).put_digits-at.ensures.0, (column_put p).long)
 
-add-at_4 : tie.Need-overflow_add-at-4
-add-at_4 c = omega (arith, (slashes_put c.before.before).fits)
+add_at_4 : tie.Need-overflow_add-at-4
+add_at_4 c = omega (arith, (slashes_put c.before.before).fits)
 
-sub_put-digits_3 : tie.Need-slice_bounds-put_digits-count-3
-sub_put-digits_3 c = let s = slashes_put c.before.before in omega (arith, s.long, s.fits)
+sub_put_digits_3 : tie.Need-slice_bounds-put_digits-count-3
+sub_put_digits_3 c = let s = slashes_put c.before.before in omega (arith, s.long, s.fits)
 
-part-put-digits-start_3 : tie.Need-slice_bounds-put_digits-start-3
-part-put-digits-start_3 c = let s = slashes_put c.before.before in omega (arith, s.long, s.fits)
+part-put-digits_start_3 : tie.Need-slice_bounds-put_digits-start-3
+part-put-digits_start_3 c = let s = slashes_put c.before.before in omega (arith, s.long, s.fits)
 
-part-put-digits-end_3 : tie.Need-slice_bounds-put_digits-end-3
-part-put-digits-end_3 c = search rules
+part-put-digits_end_3 : tie.Need-slice_bounds-put_digits-end-3
+part-put-digits_end_3 c = search rules
 
-put-digits_requires_3 : tie.Need-put_digits-at-requires-3
-put-digits_requires_3 c κs =
+put_digits_requires_3 : tie.Need-put_digits-at-requires-3
+put_digits_requires_3 c κs =
     let p = c.before.before.before in
     let s = start (first p) in
     rest_long (set (with_column p) (column_end p) 47) (column_end p + 1) (length (digits s.args.r.value))
     (omega (arith, enough s, (first p).put_digits-at.ensures.0, (slashes_put p).long))
 
-add-at_5 : tie.Need-overflow_add-at-5
-add-at_5 c = omega (arith, (value_put c.before.before).fits)
+add_at_5 : tie.Need-overflow_add-at-5
+add_at_5 c = omega (arith, (value_put c.before.before).fits)
 
 same_length : tie.Need-shape_of-free
 same_length c = (value_put c.before.before).long
@@ -162,24 +162,24 @@ put_entry_spec =
     tie.close
     (tie.spec
     slice_write_free
-    sub_put-digits
+    sub_put_digits
     part-put-digits-start
     part-put-digits-end
-    put-digits_requires
+    put_digits_requires
     add_at
     slice_write_free_2
-    add-at_2
-    sub_put-digits_2
-    part-put-digits-start_2
-    part-put-digits-end_2
-    put-digits_requires_2
-    add-at_3
+    add_at_2
+    sub_put_digits_2
+    part-put-digits_start_2
+    part-put-digits_end_2
+    put_digits_requires_2
+    add_at_3
     slice_write_free_3
-    add-at_4
-    sub_put-digits_3
-    part-put-digits-start_3
-    part-put-digits-end_3
-    put-digits_requires_3
-    add-at_5
+    add_at_4
+    sub_put_digits_3
+    part-put-digits_start_3
+    part-put-digits_end_3
+    put_digits_requires_3
+    add_at_5
     same_length
     returns)

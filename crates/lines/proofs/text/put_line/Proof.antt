@@ -9,11 +9,11 @@ use lib.ListN.{length, take, drop, replicate}
 use lib.Seq.{length-take-le}
 use Rattle.numbers.specs.Digits.{digits}
 use Rattle.numbers.specs.Spliced.{spliced}
-use Rattle.numbers.proofs.Digits.{length-digits_16}
-use Rattle.weave.proofs.SplicedLaws.{length-stretch}
+use Rattle.numbers.proofs.Digits.{length_digits_16}
+use Rattle.weave.proofs.SplicedLaws.{length_stretch}
 use Rattle.lines.specs.Line.{entries, trimmed, ending, line_text}
-use Rattle.lines.proofs.Front.{Front, front_spliced, front-lent-in, front-taken}
-use Rattle.lines.proofs.LineLaws.{length-entries-most, length-ending, in-short, in-fits}
+use Rattle.lines.proofs.Front.{Front, front_spliced, front_lent_in, front_taken}
+use Rattle.lines.proofs.LineLaws.{length-entries-most, length-ending, in_short, in_fits}
 use Rattle.lines.proofs.text.put_line.Statement.{statement}
 use Rattle.lines.proofs.text.put_line.Tie as tie
 
@@ -34,7 +34,7 @@ parts c =
     let s = begun c in
     let w = s.args.wording.now in
     let t = c.trimmed_length-shown in
-    let d = length-digits_16 s.args.number (omega (arith, s.requires.0)) in
+    let d = length_digits_16 s.args.number (omega (arith, s.requires.0)) in
     let l = length-entries-most s.args.readings s.good.1.1.0.0 s.good.1.1.0.1.1 s.args.n in
     let shown : length (trimmed w) ≡ t.result = sym (ap length t.ensures.0) ∙ length-take-le t.result w t.ensures.1 in
     let e : length (ending w) ≡ t.result + 3 = omega (arith, length-ending w) in
@@ -75,7 +75,7 @@ entries-put : (c : tie.After-put_entries-at) →
     Front zeros (digits a.number ++ entries (take a.n a.readings)) (entered c) (end c)
 entries-put c =
     let a = (begun (trimmed-first (numbered c))).args in
-    front-lent-in (digits-put (numbered c)) refl (entries (take a.n a.readings)) (omega (arith, place c)) c.put_entries-at.ensures
+    front_lent_in (digits-put (numbered c)) refl (entries (take a.n a.readings)) (omega (arith, place c)) c.put_entries-at.ensures
 
 -- the whole line
 abbrev behind : tie.After-put_ending → tie.After-put_entries-at
@@ -100,21 +100,21 @@ line-put c =
     let tail = ending a.wording.now in
     let e : total c ≡ end p + length tail = omega (arith, (parts (trimmed-first (numbered p))).0) in
     rw (e, ← append_assoc (digits a.number) (entries (take a.n a.readings)) tail)
-    (front-lent-in (entries-put p) refl tail (place p) (refl, c.put_ending.ensures))
+    (front_lent_in (entries-put p) refl tail (place p) (refl, c.put_ending.ensures))
 
 -- ---- the needs
 
-trimmed-length_requires : tie.Need-trimmed_length-shown-requires
-trimmed-length_requires c κs = search rules
+trimmed_length_requires : tie.Need-trimmed_length-shown-requires
+trimmed_length_requires c κs = search rules
 
-slice_aggregate_put-digits : tie.Need-slice_bounds-put_digits-end
-slice_aggregate_put-digits c = search rules
+slice_aggregate_put_digits : tie.Need-slice_bounds-put_digits-end
+slice_aggregate_put_digits c = search rules
 
-put-digits_requires : tie.Need-put_digits-at-requires
-put-digits_requires c κs = omega (arith, parts c.before)
+put_digits_requires : tie.Need-put_digits-at-requires
+put_digits_requires c κs = omega (arith, parts c.before)
 
-sub_put-entries : tie.Need-slice_bounds-put_entries-count
-sub_put-entries c = (digits-put c.before).fits
+sub_put_entries : tie.Need-slice_bounds-put_entries-count
+sub_put_entries c = (digits-put c.before).fits
 
 part_text_start : tie.Need-slice_bounds-text-start
 part_text_start c = (digits-put c.before).fits
@@ -122,19 +122,19 @@ part_text_start c = (digits-put c.before).fits
 part_text_end : tie.Need-slice_bounds-text-end
 part_text_end c = search rules
 
-put-entries_requires : tie.Need-put_entries-at-requires
-put-entries_requires c κs =
+put_entries_requires : tie.Need-put_entries-at-requires
+put_entries_requires c κs =
     let d = c.before.before in
     let at = d.put_digits-at.result in
     let h : at ≤ 230 = (digits-put d).ranges in
-    let long = length-stretch d.put_digits-at.new.0 at (230 - at) (omega (arith, (digits-put d).long)) in
+    let long = length_stretch d.put_digits-at.new.0 at (230 - at) (omega (arith, (digits-put d).long)) in
     ((begun (trimmed-first d)).requires.1.0, omega (arith, (parts (trimmed-first d)).1, d.put_digits-at.ensures.0))
 
 add_at : tie.Need-overflow_add-at
 add_at c = record { fits = omega (arith, place c.before) }
 
-sub_put-ending : tie.Need-slice_bounds-put_ending-count
-sub_put-ending c = (entries-put c.before).fits
+sub_put_ending : tie.Need-slice_bounds-put_ending-count
+sub_put_ending c = (entries-put c.before).fits
 
 part_text_start_2 : tie.Need-slice_bounds-text-start-2
 part_text_start_2 c = (entries-put c.before).fits
@@ -142,24 +142,24 @@ part_text_start_2 c = (entries-put c.before).fits
 part_text_end_2 : tie.Need-slice_bounds-text-end-2
 part_text_end_2 c = omega (arith, (entries-put c.before).long)
 
-put-ending_requires : tie.Need-put_ending-requires
-put-ending_requires c κs =
+put_ending_requires : tie.Need-put_ending-requires
+put_ending_requires c κs =
     let p = c.before.before in
     let t = (trimmed-first (numbered p)).trimmed_length-shown in
     let h : end p ≤ 230 = (entries-put p).ranges in
-    let long = length-stretch (entered p) (end p) (230 - end p) (omega (arith, (entries-put p).long)) in
+    let long = length_stretch (entered p) (end p) (230 - end p) (omega (arith, (entries-put p).long)) in
     (t.ensures.0, (t.ensures.1, omega (arith, place p)))
 
 add_total : tie.Need-overflow_add-total
 add_total c = record { fits = omega (arith, (line-put c.before).fits) }
 
-add-total_2 : tie.Need-overflow_add-total-2
-add-total_2 c = record { fits = omega (arith, (line-put c.before).fits) }
+add_total_2 : tie.Need-overflow_add-total-2
+add_total_2 c = record { fits = omega (arith, (line-put c.before).fits) }
 
 returns : tie.Need-returns-then-buffer-total
 returns c =
     let w = line-put c.before.before in
-    let short = in-short (written_from c.before.before).args.buffer.now (text (written_from c.before.before)) (omega (arith, w.end, c.if-buffer-total.true)) in
+    let short = in_short (written_from c.before.before).args.buffer.now (text (written_from c.before.before)) (omega (arith, w.end, c.if-buffer-total.true)) in
     (sym short.0, (sym short.1, omega (arith, w.end, w.fits)))
 
 slice_aggregate_copy_at : tie.Need-slice_bounds-copy_at-end
@@ -178,29 +178,29 @@ returns_2 c =
     let p = c.before.before.before.before.before.before.before in
     let w = line-put p in
     let buffer = (written_from p).args.buffer.now in
-    let whole = in-fits buffer (text (written_from p)) (omega (arith, w.end, c.before.before.before.before.before.if-buffer-total.false)) in (
+    let whole = in_fits buffer (text (written_from p)) (omega (arith, w.end, c.before.before.before.before.before.if-buffer-total.false)) in (
       w.end ∙ sym whole.0,
-      (c.before.before.copy_at.ensures ∙ ap (spliced buffer 0) (front-taken w) ∙ sym whole.1, omega (arith, w.end, w.fits)),
+      (c.before.before.copy_at.ensures ∙ ap (spliced buffer 0) (front_taken w) ∙ sym whole.1, omega (arith, w.end, w.fits)),
     )
 
 pub put_line_spec : {M : Type 1} → statement M
 put_line_spec =
     tie.close
     (tie.spec
-    trimmed-length_requires
-    slice_aggregate_put-digits
-    put-digits_requires
-    sub_put-entries
+    trimmed_length_requires
+    slice_aggregate_put_digits
+    put_digits_requires
+    sub_put_entries
     part_text_start
     part_text_end
-    put-entries_requires
+    put_entries_requires
     add_at
-    sub_put-ending
+    sub_put_ending
     part_text_start_2
     part_text_end_2
-    put-ending_requires
+    put_ending_requires
     add_total
-    add-total_2
+    add_total_2
     returns
     slice_aggregate_copy_at
     copy_at_requires

@@ -7,7 +7,7 @@ use borrow.Author.Rules.{rules}
 use lib.ListN.{length, take}
 use lib.Seq.{take-length}
 use Rattle.lines.specs.Line.{trimmed}
-use Rattle.lines.proofs.LineLaws.{trimmed-shorter, trimmed-itself}
+use Rattle.lines.proofs.LineLaws.{trimmed_shorter, trimmed_itself}
 use Rattle.lines.proofs.text.trimmed_length.Statement.{statement}
 use Rattle.lines.proofs.text.trimmed_length.Tie as tie
 
@@ -30,7 +30,7 @@ returns : tie.Need-returns-then-wording-n-ne32 invariant_loop decreases_loop
 returns c =
     let l = c.before.before.before.loop-n in
     let w = c.before.before.before.before.args.wording.now in
-    (sym (trimmed-itself w l.n (omega arith) (omega arith) c.if-wording-n-ne32.true) ∙ l.invariant.1, omega arith)
+    (sym (trimmed_itself w l.n (omega arith) (omega arith) c.if-wording-n-ne32.true) ∙ l.invariant.1, omega arith)
 
 sub_n : tie.Need-overflow_sub-n-in-loop-n invariant_loop decreases_loop
 sub_n c = search rules
@@ -42,7 +42,7 @@ loop_again : tie.Need-loop-n-preserved invariant_loop decreases_loop
 loop_again c =
     let l = c.before.before.before.loop-n in
     let w = c.before.before.before.before.args.wording.now in
-    (omega arith, sym (trimmed-shorter w l.n (omega arith) (omega arith) c.if-wording-n-ne32.false) ∙ l.invariant.1)
+    (omega arith, sym (trimmed_shorter w l.n (omega arith) (omega arith) c.if-wording-n-ne32.false) ∙ l.invariant.1)
 
 returns_2 : tie.Need-returns invariant_loop decreases_loop
 unfolding trimmed

@@ -8,9 +8,9 @@ use native.Mathlib.Omega.{arith}
 use borrow.Author.Rules.{rules}
 use borrow.Author.Tests.{eqb-true}
 use Rattle.room.specs.Parts.{below}
-use Rattle.room.proofs.Counts.{Added, Filled, filled, Counted, counted_none, counted-more, counts-right}
+use Rattle.room.proofs.Counts.{Added, Filled, filled, Counted, counted_none, counted-more, counts_right}
 use Rattle.room.proofs.Order.{get_or-below}
-use Rattle.room.proofs.Tally.{Noted, noted-wrong, noted-right}
+use Rattle.room.proofs.Tally.{Noted, noted_wrong, noted_right}
 use Rattle.room.proofs.broken.counts_fit.Statement.{statement}
 use Rattle.room.proofs.broken.counts_fit.Tie as tie
 
@@ -26,8 +26,8 @@ cast_few c = search rules
 loop_holds : tie.Need-loop-i-init invariant_loop decreases_loop
 loop_holds c = (omega arith, counted_none c.args.counts.now c.args.rules)
 
-shared_slice_read-k : tie.Need-bounds-counts-i invariant_loop decreases_loop
-shared_slice_read-k c = search rules
+shared_slice_read_k : tie.Need-bounds-counts-i invariant_loop decreases_loop
+shared_slice_read_k c = search rules
 
 add_total : tie.Need-overflow_add-total invariant_loop decreases_loop
 add_total c = search rules
@@ -45,8 +45,8 @@ added : (c : tie.Joined-k-le6 invariant_loop decreases_loop) →
     (c.if-k-le6.total ≤ l.loop-i.total + 6) × Noted l.loop-i.wrong c.if-k-le6.wrong (Added a.counts.now l.loop-i.i l.loop-i.total c.if-k-le6.total)
 added c =
     ⊎_elim
-    (λ w. (omega arith, noted-right (omega arith) (omega arith)))
-    (λ w. (omega arith, noted-wrong (omega arith)))
+    (λ w. (omega arith, noted_right (omega arith) (omega arith)))
+    (λ w. (omega arith, noted_wrong (omega arith)))
     c.if-k-le6.branch-raw
 
 fill : (c : tie.Joined-k-places invariant_loop decreases_loop) →
@@ -59,8 +59,8 @@ fill c =
     let a = l.before.args in
     let i = l.loop-i.i in
     ⊎_elim
-    (λ w. noted-wrong (omega arith))
-    (λ w. noted-right (omega arith) (filled a.counts.now a.rules i (get_or-below 32 i (omega arith)) w.if-k-places.false))
+    (λ w. noted_wrong (omega arith))
+    (λ w. noted_right (omega arith) (filled a.counts.now a.rules i (get_or-below 32 i (omega arith)) w.if-k-places.false))
     c.if-k-places.branch-raw
 
 add_wrong_2 : tie.Need-overflow_add-wrong-then-k-places invariant_loop decreases_loop
@@ -89,7 +89,7 @@ returns_2 c e =
     let l = c.before.before in
     let s = l.before in
     let all : l.loop-i.i ≡ 32 = omega arith in
-    let fits = counts-right s.args.counts.now s.args.rules s.requires.0 s.requires.1 (rw (all, c.if-wrong-ne0.false) at l.loop-i.invariant.1) in
+    let fits = counts_right s.args.counts.now s.args.rules s.requires.0 s.requires.1 (rw (all, c.if-wrong-ne0.false) at l.loop-i.invariant.1) in
     (fits.0, fits.1 ∙ eqb-true _ _ e)
 
 pub counts_fit_spec : {M : Type 1} → statement M
@@ -100,7 +100,7 @@ counts_fit_spec =
     decreases_loop
     cast_few
     loop_holds
-    shared_slice_read-k
+    shared_slice_read_k
     add_total
     add_wrong
     array_read_if2

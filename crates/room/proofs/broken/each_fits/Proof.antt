@@ -9,7 +9,7 @@ use borrow.Author.Rules.{rules}
 use lib.ListN.{take}
 use Rattle.room.specs.Parts.{part}
 use Rattle.room.specs.Broken.{sum, tables_fit}
-use Rattle.room.proofs.BrokenLaws.{RuleFits, total-more, some-unfit, all_fit}
+use Rattle.room.proofs.BrokenLaws.{RuleFits, total-more, some_unfit, all_fit}
 use Rattle.room.proofs.broken.each_fits.Statement.{statement}
 use Rattle.room.proofs.broken.each_fits.Tie as tie
 
@@ -20,8 +20,8 @@ invariant_loop room rules tokens total₀ i₀ total i =
 abbrev decreases_loop : tie.decreases-loop-i
 decreases_loop room rules tokens total₀ i₀ total i = rules - i
 
-two-at_requires : tie.Need-two_at-tokens-requires invariant_loop decreases_loop
-two-at_requires c κs = search rules
+two_at_requires : tie.Need-two_at-tokens-requires invariant_loop decreases_loop
+two_at_requires c κs = search rules
 
 loop_holds : tie.Need-loop-i-init invariant_loop decreases_loop
 unfolding sum
@@ -30,8 +30,8 @@ loop_holds c = (omega arith, (refl, (omega arith, below_none _)))
 add-k : tie.Need-overflow_add-k invariant_loop decreases_loop
 add-k c = search rules
 
-shared_slice_read-k : tie.Need-bounds-room-i invariant_loop decreases_loop
-shared_slice_read-k c = search rules
+shared_slice_read_k : tie.Need-bounds-room-i invariant_loop decreases_loop
+shared_slice_read_k c = search rules
 
 cast_k : tie.Need-overflow_cast-k invariant_loop decreases_loop
 cast_k c = omega (arith, c.shared_slice_known-in-loop-i-1.given (8656 + c.before.before.loop-i.i))
@@ -44,7 +44,7 @@ unfit : (c : tie.In-loop-i invariant_loop decreases_loop) →
 unfit c outside =
     let l = c.before in
     let s = l.before.before.before in
-    sym (some-unfit s.args.room.now (omega arith) s.requires.1.0 l.before.two_at-tokens.ensures.0 (omega arith) λ all. outside (all l.loop-i.i c.loop-i-test.true))
+    sym (some_unfit s.args.room.now (omega arith) s.requires.1.0 l.before.two_at-tokens.ensures.0 (omega arith) λ all. outside (all l.loop-i.i c.loop-i-test.true))
 
 returns : tie.Need-returns-then-k-lt1 invariant_loop decreases_loop
 returns c = unfit c.before.before λ h. omega arith
@@ -52,26 +52,26 @@ returns c = unfit c.before.before λ h. omega arith
 returns_2 : tie.Need-returns-then-k-gt6 invariant_loop decreases_loop
 returns_2 c = unfit c.before.before.before λ h. omega arith
 
-mul_two-at : tie.Need-overflow_mul-i invariant_loop decreases_loop
-mul_two-at c = search rules
+mul_two_at : tie.Need-overflow_mul-i invariant_loop decreases_loop
+mul_two_at c = search rules
 
 add-two-at : tie.Need-overflow_add-i invariant_loop decreases_loop
 add-two-at c = search rules
 
-two-at_requires_2 : tie.Need-two_at-requires invariant_loop decreases_loop
-two-at_requires_2 c κs = search rules
+two_at_requires_2 : tie.Need-two_at-requires invariant_loop decreases_loop
+two_at_requires_2 c κs = search rules
 
 returns_3 : tie.Need-returns-then-tokens-two_at invariant_loop decreases_loop
 returns_3 c = unfit c.before.before.before.before.before λ h. omega arith
 
-mul_two-at_2 : tie.Need-overflow_mul-i-in-loop-i invariant_loop decreases_loop
-mul_two-at_2 c = search rules
+mul_two_at_2 : tie.Need-overflow_mul-i-in-loop-i invariant_loop decreases_loop
+mul_two_at_2 c = search rules
 
-add-two-at_2 : tie.Need-overflow_add-i-in-loop-i invariant_loop decreases_loop
-add-two-at_2 c = search rules
+add-two_at_2 : tie.Need-overflow_add-i-in-loop-i invariant_loop decreases_loop
+add-two_at_2 c = search rules
 
-two-at_requires_3 : tie.Need-two_at-requires-in-loop-i invariant_loop decreases_loop
-two-at_requires_3 c κs = search rules
+two_at_requires_3 : tie.Need-two_at-requires-in-loop-i invariant_loop decreases_loop
+two_at_requires_3 c κs = search rules
 
 returns_4 : tie.Need-returns-then-tokens-two_at-2 invariant_loop decreases_loop
 returns_4 c = unfit c.before.before.before.before.before.before.before λ h. omega arith
@@ -93,8 +93,8 @@ loop_again c =
     let here : RuleFits room a.before.two_at-tokens.result i = omega arith in
     (omega arith, (omega (arith, total-more room (omega arith) i (omega arith)), (omega arith, below_more _ _ a.loop-i.invariant.1.1.1 here)))
 
-two-at_requires_4 : tie.Need-two_at-requires-2 invariant_loop decreases_loop
-two-at_requires_4 c κs = search rules
+two_at_requires_4 : tie.Need-two_at-requires-2 invariant_loop decreases_loop
+two_at_requires_4 c κs = search rules
 
 returns_5 : tie.Need-returns invariant_loop decreases_loop
 returns_5 c =
@@ -117,24 +117,24 @@ each_fits_spec =
     (tie.spec
     invariant_loop
     decreases_loop
-    two-at_requires
+    two_at_requires
     loop_holds
     add-k
-    shared_slice_read-k
+    shared_slice_read_k
     cast_k
     returns
     returns_2
-    mul_two-at
+    mul_two_at
     add-two-at
-    two-at_requires_2
+    two_at_requires_2
     returns_3
-    mul_two-at_2
-    add-two-at_2
-    two-at_requires_3
+    mul_two_at_2
+    add-two_at_2
+    two_at_requires_3
     returns_4
     add_total
     add_i
     loop_less
     loop_again
-    two-at_requires_4
+    two_at_requires_4
     returns_5)

@@ -8,7 +8,7 @@ use borrow.Author.Rules.{rules}
 use borrow.Author.Tests.{eqb-true}
 use lib.ListN.{get_or}
 use Rattle.numbers.specs.BigEndian.{uint}
-use Rattle.room.proofs.Tally.{Noted, noted-wrong, noted-right, Tally, tally-none, tally-more}
+use Rattle.room.proofs.Tally.{Noted, noted_wrong, noted_right, Tally, tally_none, tally_more}
 use Rattle.room.proofs.Turned.{turned_two}
 use Rattle.room.proofs.broken.ends_fit.Statement.{statement}
 use Rattle.room.proofs.broken.ends_fit.Tie as tie
@@ -19,8 +19,8 @@ invariant_loop room tokens ends fulls wrong₀ i₀ wrong i = (i ≤ 32) × Tall
 abbrev decreases_loop : tie.decreases-loop-i
 decreases_loop room tokens ends fulls wrong₀ i₀ wrong i = 32 - i
 
-two-at_requires : tie.Need-two_at-tokens-requires invariant_loop decreases_loop
-two-at_requires c κs = search rules
+two_at_requires : tie.Need-two_at-tokens-requires invariant_loop decreases_loop
+two_at_requires c κs = search rules
 
 cast_tokens : tie.Need-overflow_cast-tokens invariant_loop decreases_loop
 cast_tokens c = search rules
@@ -50,7 +50,7 @@ turned_requires_2 : tie.Need-turned-fulls-requires invariant_loop decreases_loop
 turned_requires_2 c κs = search rules
 
 loop_holds : tie.Need-loop-i-init invariant_loop decreases_loop
-loop_holds c = (omega arith, tally-none _ _)
+loop_holds c = (omega arith, tally_none _ _)
 
 -- the bytes of the room
 byte : (c : tie.In-loop-i invariant_loop decreases_loop) (k : ℕ) → get_or c.before.before.before.before.before.before.before.before.args.room.now k 0 < 256
@@ -80,7 +80,7 @@ end-noted : (c : tie.Joined-tokens-turn invariant_loop decreases_loop) →
     Noted l.loop-i.wrong c.if-tokens-turn.wrong (uint 2 room (8688 + l.loop-i.i * 2) ≤ l.before.before.before.before.before.two_at-tokens.result)
 end-noted c =
     let e = end_read c.before in
-    ⊎_elim (λ w. noted-wrong (omega arith)) (λ w. noted-right (omega arith) (omega arith)) c.if-tokens-turn.branch-raw
+    ⊎_elim (λ w. noted_wrong (omega arith)) (λ w. noted_right (omega arith) (omega arith)) c.if-tokens-turn.branch-raw
 
 full-noted : (c : tie.Joined-tokens-turn-2 invariant_loop decreases_loop) →
     let l = c.before.before.before.before.before in
@@ -88,13 +88,13 @@ full-noted : (c : tie.Joined-tokens-turn-2 invariant_loop decreases_loop) →
     Noted c.before.before.if-tokens-turn.wrong c.if-tokens-turn-2.wrong (uint 2 room (8752 + l.loop-i.i * 2) ≤ l.before.before.before.before.before.two_at-tokens.result)
 full-noted c =
     let e = full-read c.before in
-    ⊎_elim (λ w. noted-wrong (omega arith)) (λ w. noted-right (omega arith) (omega arith)) c.if-tokens-turn-2.branch-raw
+    ⊎_elim (λ w. noted_wrong (omega arith)) (λ w. noted_right (omega arith) (omega arith)) c.if-tokens-turn-2.branch-raw
 
 mul_turn : tie.Need-offset_bounds-ends-i invariant_loop decreases_loop
 mul_turn c = search rules
 
-array_read-turn : tie.Need-bounds-ends-i invariant_loop decreases_loop
-array_read-turn c = search rules
+array_read_turn : tie.Need-bounds-ends-i invariant_loop decreases_loop
+array_read_turn c = search rules
 
 turn_requires : tie.Need-turn-requires invariant_loop decreases_loop
 turn_requires c κs = search rules
@@ -105,8 +105,8 @@ add_wrong c = search rules
 mul_turn_2 : tie.Need-offset_bounds-fulls-i invariant_loop decreases_loop
 mul_turn_2 c = search rules
 
-array_read-turn_2 : tie.Need-bounds-fulls-i invariant_loop decreases_loop
-array_read-turn_2 c = search rules
+array_read_turn_2 : tie.Need-bounds-fulls-i invariant_loop decreases_loop
+array_read_turn_2 c = search rules
 
 turn_requires_2 : tie.Need-turn-requires-in-loop-i invariant_loop decreases_loop
 turn_requires_2 c κs = search rules
@@ -123,7 +123,7 @@ loop_less c = search rules
 loop_again : tie.Need-loop-i-preserved invariant_loop decreases_loop
 loop_again c =
     let l = c.before.before.before.before.before in
-    (omega arith, tally-more _ _ l.loop-i.i l.loop-i.invariant.1 (end-noted c.before.before) (full-noted c))
+    (omega arith, tally_more _ _ l.loop-i.i l.loop-i.invariant.1 (end-noted c.before.before) (full-noted c))
 
 returns : tie.Need-returns invariant_loop decreases_loop
 returns c e k h =
@@ -137,7 +137,7 @@ ends_fit_spec =
     (tie.spec
     invariant_loop
     decreases_loop
-    two-at_requires
+    two_at_requires
     cast_tokens
     sub_turned
     part_turned_start
@@ -149,11 +149,11 @@ ends_fit_spec =
     turned_requires_2
     loop_holds
     mul_turn
-    array_read-turn
+    array_read_turn
     turn_requires
     add_wrong
     mul_turn_2
-    array_read-turn_2
+    array_read_turn_2
     turn_requires_2
     add_wrong_2
     add_i

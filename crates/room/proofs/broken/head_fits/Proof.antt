@@ -17,11 +17,11 @@ use Rattle.room.proofs.broken.head_fits.Tie as tie
 unfit : (room : List ℕ) → (Head (λ k. uint 2 room (k * 2)) → ⊥) → false ≡ head_fits room
 unfit room outside = sym (eq-false_of_not-eq-true λ t. outside ((head_read room).0 t))
 
-two-at_requires : tie.Need-two_at-e-requires
-two-at_requires c κs = search rules
+two_at_requires : tie.Need-two_at-e-requires
+two_at_requires c κs = search rules
 
-two-at_requires_2 : tie.Need-two_at-t-requires
-two-at_requires_2 c κs = search rules
+two_at_requires_2 : tie.Need-two_at-t-requires
+two_at_requires_2 c κs = search rules
 
 returns : tie.Need-returns-then-e-lt1
 returns c = unfit _ λ h. omega arith
@@ -35,38 +35,38 @@ returns_3 c = unfit _ λ h. omega arith
 returns_4 : tie.Need-returns-then-t-gt2048
 returns_4 c = unfit _ λ h. omega arith
 
-two-at_requires_3 : tie.Need-two_at-requires
-two-at_requires_3 c κs = search rules
+two_at_requires_3 : tie.Need-two_at-requires
+two_at_requires_3 c κs = search rules
 
 returns_5 : tie.Need-returns-then-e-two_at
 returns_5 c = unfit _ λ h. omega arith
 
-two-at_requires_4 : tie.Need-two_at-requires-2
-two-at_requires_4 c κs = search rules
+two_at_requires_4 : tie.Need-two_at-requires-2
+two_at_requires_4 c κs = search rules
 
 returns_6 : tie.Need-returns-then-t-two_at
 returns_6 c = unfit _ λ h. omega arith
 
-two-at_requires_5 : tie.Need-two_at-requires-3
-two-at_requires_5 c κs = search rules
+two_at_requires_5 : tie.Need-two_at-requires-3
+two_at_requires_5 c κs = search rules
 
 returns_7 : tie.Need-returns-then-two_at-gt8192
 returns_7 c = unfit _ λ h. omega arith
 
-two-at_requires_6 : tie.Need-two_at-requires-4
-two-at_requires_6 c κs = search rules
+two_at_requires_6 : tie.Need-two_at-requires-4
+two_at_requires_6 c κs = search rules
 
 returns_8 : tie.Need-returns-then-two_at-gt32
 returns_8 c = unfit _ λ h. omega arith
 
-two-at_requires_7 : tie.Need-two_at-requires-5
-two-at_requires_7 c κs = search rules
+two_at_requires_7 : tie.Need-two_at-requires-5
+two_at_requires_7 c κs = search rules
 
 returns_9 : tie.Need-returns-then-two_at-gt192
 returns_9 c = unfit _ λ h. omega arith
 
-two-at_requires_8 : tie.Need-two_at-requires-6
-two-at_requires_8 c κs = search rules
+two_at_requires_8 : tie.Need-two_at-requires-6
+two_at_requires_8 c κs = search rules
 
 returns_10 : tie.Need-returns
 returns_10 c =
@@ -77,21 +77,21 @@ pub head_fits_spec : {M : Type 1} → statement M
 head_fits_spec =
     tie.close
     (tie.spec
-    two-at_requires
-    two-at_requires_2
+    two_at_requires
+    two_at_requires_2
     returns
     returns_2
     returns_3
     returns_4
-    two-at_requires_3
+    two_at_requires_3
     returns_5
-    two-at_requires_4
+    two_at_requires_4
     returns_6
-    two-at_requires_5
+    two_at_requires_5
     returns_7
-    two-at_requires_6
+    two_at_requires_6
     returns_8
-    two-at_requires_7
+    two_at_requires_7
     returns_9
-    two-at_requires_8
+    two_at_requires_8
     returns_10)

@@ -27,8 +27,8 @@ returns_2 : tie.Need-returns-then-not-head_fits
 unfolding broken
 returns_2 c = sym (simp (sym c.before.head_fits.ensures ∙ not-true _ c.if-not-head_fits.true-raw, or-true))
 
-two-at_requires : tie.Need-two_at-requires
-two-at_requires c κs = search rules
+two_at_requires : tie.Need-two_at-requires
+two_at_requires c κs = search rules
 
 mul_if3 : tie.Need-overflow_mul-two_at
 mul_if3 c = search rules
@@ -63,7 +63,7 @@ is_broken_spec =
     returns
     head_fits_requires
     returns_2
-    two-at_requires
+    two_at_requires
     mul_if3
     add_if3
     returns_3

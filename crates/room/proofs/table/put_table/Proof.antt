@@ -10,7 +10,7 @@ use lib.ListN.{length, take, get_or, length-set}
 use lib.Seq.{take_all}
 use Rattle.numbers.specs.BigEndian.{bytes}
 use Rattle.numbers.specs.Spliced.{spliced}
-use Rattle.numbers.proofs.Spliced.{spliced-nil}
+use Rattle.numbers.proofs.Spliced.{spliced_nil}
 use Rattle.room.specs.Parts.{twos_bytes}
 use Rattle.room.proofs.Spliced.{filled-set, spliced-whole}
 use Rattle.room.proofs.Turned.{turned_put}
@@ -40,8 +40,8 @@ loop_holds c = (omega arith, (refl, below_none _))
 mul_turn : tie.Need-offset_bounds-numbers-j invariant_loop decreases_loop invariant_loop2 decreases_loop2
 mul_turn c = search rules
 
-shared_slice_read-turn : tie.Need-bounds-numbers-j invariant_loop decreases_loop invariant_loop2 decreases_loop2
-shared_slice_read-turn c = search rules
+shared_slice_read_turn : tie.Need-bounds-numbers-j invariant_loop decreases_loop invariant_loop2 decreases_loop2
+shared_slice_read_turn c = search rules
 
 turn_requires : tie.Need-turn-requires invariant_loop decreases_loop invariant_loop2 decreases_loop2
 turn_requires c κs = search rules
@@ -66,7 +66,7 @@ loop_again c =
 
 loop2_holds : tie.Need-loop-i-init invariant_loop decreases_loop invariant_loop2 decreases_loop2
 unfolding twos_bytes
-loop2_holds c = (omega arith, (refl, sym (spliced-nil c.before.before.before.before.args.table.now 0)))
+loop2_holds c = (omega arith, (refl, sym (spliced_nil c.before.before.before.before.args.table.now 0)))
 
 -- the number at i, and the same turned
 small : (c : tie.In-loop-i invariant_loop decreases_loop invariant_loop2 decreases_loop2) → get_or c.before.before.before.before.before.before.args.numbers.now c.before.loop-i.i 0 < 65536
@@ -148,7 +148,7 @@ put_table_spec =
     decreases_loop2
     loop_holds
     mul_turn
-    shared_slice_read-turn
+    shared_slice_read_turn
     turn_requires
     mul_ys
     array_write_ys

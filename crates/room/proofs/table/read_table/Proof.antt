@@ -29,8 +29,8 @@ loop_holds c = (omega arith, (c.before.before.before.requires.0, below_none _))
 mul_turn : tie.Need-offset_bounds-ys-i invariant_loop decreases_loop
 mul_turn c = search rules
 
-array_read-turn : tie.Need-bounds-ys-i invariant_loop decreases_loop
-array_read-turn c = search rules
+array_read_turn : tie.Need-bounds-ys-i invariant_loop decreases_loop
+array_read_turn c = search rules
 
 turn_requires : tie.Need-turn-requires invariant_loop decreases_loop
 turn_requires c κs = search rules
@@ -75,7 +75,7 @@ read_table_spec =
     turned_requires
     loop_holds
     mul_turn
-    array_read-turn
+    array_read_turn
     turn_requires
     mul_numbers
     slice_write_numbers

@@ -7,7 +7,7 @@ use native.Mathlib.Omega.{arith}
 use borrow.Author.Rules.{rules}
 use lib.ListN.{length, length-set, set, replicate, length-replicate, replicate-append-replicate}
 use Rattle.numbers.specs.Spliced.{spliced}
-use Rattle.numbers.proofs.Spliced.{spliced-nil}
+use Rattle.numbers.proofs.Spliced.{spliced_nil}
 use Rattle.room.proofs.Spliced.{set-behind, spliced-whole}
 use Rattle.room.proofs.write.clear.Statement.{statement}
 use Rattle.room.proofs.write.clear.Tie as tie
@@ -19,7 +19,7 @@ abbrev decreases_loop : tie.decreases-loop-i
 decreases_loop part₀ i₀ part i = length part₀ - i
 
 loop_holds : tie.Need-loop-i-init invariant_loop decreases_loop
-loop_holds c = (search rules, (search rules, sym (spliced-nil c.args.part.now 0)))
+loop_holds c = (search rules, (search rules, sym (spliced_nil c.args.part.now 0)))
 
 slice_write_part : tie.Need-bounds-part-i invariant_loop decreases_loop
 slice_write_part c = search rules

@@ -7,7 +7,7 @@ use native.Mathlib.Omega.{arith}
 use borrow.Author.Rules.{rules}
 use lib.ListN.{length, length-set, take, get_or, set}
 use Rattle.numbers.specs.Spliced.{spliced}
-use Rattle.numbers.proofs.Spliced.{spliced-nil}
+use Rattle.numbers.proofs.Spliced.{spliced_nil}
 use Rattle.room.proofs.Spliced.{set-take-behind}
 use Rattle.room.proofs.write.copy_at.Statement.{statement}
 use Rattle.room.proofs.write.copy_at.Tie as tie
@@ -19,10 +19,10 @@ abbrev decreases_loop : tie.decreases-loop-i
 decreases_loop part₀ at from n i₀ part i = n - i
 
 loop_holds : tie.Need-loop-i-init invariant_loop decreases_loop
-loop_holds c = (search rules, (search rules, sym (spliced-nil c.args.part.now c.args.at)))
+loop_holds c = (search rules, (search rules, sym (spliced_nil c.args.part.now c.args.at)))
 
-shared_slice_read-part : tie.Need-bounds-from-i invariant_loop decreases_loop
-shared_slice_read-part c = search rules
+shared_slice_read_part : tie.Need-bounds-from-i invariant_loop decreases_loop
+shared_slice_read_part c = search rules
 
 add-part : tie.Need-overflow_add-part invariant_loop decreases_loop
 add-part c = search rules
@@ -65,7 +65,7 @@ copy_at_spec =
     invariant_loop
     decreases_loop
     loop_holds
-    shared_slice_read-part
+    shared_slice_read_part
     add-part
     slice_write_part
     add_i

@@ -7,7 +7,7 @@ use native.Mathlib.Omega.{arith}
 use borrow.Author.Rules.{rules}
 use lib.ListN.{length, length-set, set}
 use Rattle.numbers.specs.Spliced.{spliced}
-use Rattle.numbers.proofs.Spliced.{spliced-nil}
+use Rattle.numbers.proofs.Spliced.{spliced_nil}
 use Rattle.room.specs.Parts.{below}
 use Rattle.room.proofs.Order.{length-below, below_more}
 use Rattle.room.proofs.Spliced.{set-behind, spliced-whole}
@@ -22,7 +22,7 @@ decreases_loop order₀ i₀ order i = 256 - i
 
 loop_holds : tie.Need-loop-i-init invariant_loop decreases_loop
 unfolding below
-loop_holds c = (search rules, (search rules, sym (spliced-nil c.args.order.now 0)))
+loop_holds c = (search rules, (search rules, sym (spliced_nil c.args.order.now 0)))
 
 cast_order : tie.Need-overflow_cast-order invariant_loop decreases_loop
 cast_order c = search rules

@@ -6,7 +6,7 @@ use borrow.Author.Rules.{rules}
 use lib.ListN.{length, take, get_or}
 use lib.Seq.{take-length}
 use Rattle.numbers.specs.Spliced.{spliced}
-use Rattle.numbers.proofs.Spliced.{spliced-nil}
+use Rattle.numbers.proofs.Spliced.{spliced_nil}
 use Rattle.numbers.specs.BigEndian.{bytes}
 use Rattle.room.specs.Parts.{twos_bytes}
 use Rattle.room.proofs.Spliced.{spliced-whole}
@@ -22,19 +22,19 @@ decreases_loop part₀ numbers i₀ part i = length numbers - i
 
 loop_holds : tie.Need-loop-i-init invariant_loop decreases_loop
 unfolding twos_bytes
-loop_holds c = (search rules, (search rules, sym (spliced-nil c.before.before.args.part.now 0)))
+loop_holds c = (search rules, (search rules, sym (spliced_nil c.before.before.args.part.now 0)))
 
-mul_put-two : tie.Need-overflow_mul-i invariant_loop decreases_loop
-mul_put-two c = search rules
+mul_put_two : tie.Need-overflow_mul-i invariant_loop decreases_loop
+mul_put_two c = search rules
 
-mul_put-two_2 : tie.Need-offset_bounds-numbers-i invariant_loop decreases_loop
-mul_put-two_2 c = search rules
+mul_put_two_2 : tie.Need-offset_bounds-numbers-i invariant_loop decreases_loop
+mul_put_two_2 c = search rules
 
-shared_slice_read-put-two : tie.Need-bounds-numbers-i invariant_loop decreases_loop
-shared_slice_read-put-two c = search rules
+shared_slice_read_put-two : tie.Need-bounds-numbers-i invariant_loop decreases_loop
+shared_slice_read_put-two c = search rules
 
-put-two_requires : tie.Need-put_two-requires invariant_loop decreases_loop
-put-two_requires c κs = search rules
+put_two_requires : tie.Need-put_two-requires invariant_loop decreases_loop
+put_two_requires c κs = search rules
 
 add_i : tie.Need-overflow_add-i invariant_loop decreases_loop
 add_i c = search rules
@@ -77,10 +77,10 @@ put_twos_spec =
     invariant_loop
     decreases_loop
     loop_holds
-    mul_put-two
-    mul_put-two_2
-    shared_slice_read-put-two
-    put-two_requires
+    mul_put_two
+    mul_put_two_2
+    shared_slice_read_put-two
+    put_two_requires
     add_i
     loop_less
     loop_again

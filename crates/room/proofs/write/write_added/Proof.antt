@@ -75,8 +75,8 @@ copy_at_requires_2 c κs = search rules
 copy_at_requires_3 : tie.Need-copy_at-requires-3
 copy_at_requires_3 c κs = search rules
 
-sub_put-reading : tie.Need-slice_bounds-put_reading-count
-sub_put-reading c = lit≤ tt
+sub_put_reading : tie.Need-slice_bounds-put_reading-count
+sub_put_reading c = lit≤ tt
 
 part-put-reading-start : tie.Need-slice_bounds-put_reading-start
 part-put-reading-start c = lit≤ tt
@@ -84,17 +84,17 @@ part-put-reading-start c = lit≤ tt
 part-put-reading-end : tie.Need-slice_bounds-put_reading-end
 part-put-reading-end c = le_trans (lit≤ tt) (large_3 c.before)
 
-put-reading_requires : tie.Need-put_reading-requires
-put-reading_requires c κs = search rules
+put_reading_requires : tie.Need-put_reading-requires
+put_reading_requires c κs = search rules
 
 sub_copy_at : tie.Need-slice_bounds-copy_at-count
 sub_copy_at c = lit≤ tt
 
-part_copy_at-start : tie.Need-slice_bounds-copy_at-start
-part_copy_at-start c = lit≤ tt
+part_copy_at_start : tie.Need-slice_bounds-copy_at-start
+part_copy_at_start c = lit≤ tt
 
-part_copy_at-end : tie.Need-slice_bounds-copy_at-end
-part_copy_at-end c = large_4 c.before
+part_copy_at_end : tie.Need-slice_bounds-copy_at-end
+part_copy_at_end c = large_4 c.before
 
 mul_copy_at : tie.Need-overflow_mul-s
 mul_copy_at c = search rules
@@ -155,13 +155,13 @@ write_added_spec =
     add_copy_at
     copy_at_requires_2
     copy_at_requires_3
-    sub_put-reading
+    sub_put_reading
     part-put-reading-start
     part-put-reading-end
-    put-reading_requires
+    put_reading_requires
     sub_copy_at
-    part_copy_at-start
-    part_copy_at-end
+    part_copy_at_start
+    part_copy_at_end
     mul_copy_at
     copy_at_requires_4
     write_counts_requires

@@ -39,11 +39,11 @@ large_2 c =
 sub_put_table : tie.Need-slice_bounds-put_table-count
 sub_put_table c = search rules
 
-part-put_table_start : tie.Need-slice_bounds-put_table-start
-part-put_table_start c = search rules
+part_put_table_start : tie.Need-slice_bounds-put_table-start
+part_put_table_start c = search rules
 
-part-put_table_end : tie.Need-slice_bounds-put_table-end
-part-put_table_end c = search rules
+part_put_table_end : tie.Need-slice_bounds-put_table-end
+part_put_table_end c = search rules
 
 put_table_requires : tie.Need-put_table-requires
 put_table_requires c κs = search rules
@@ -51,19 +51,19 @@ put_table_requires c κs = search rules
 sub_put_table_2 : tie.Need-slice_bounds-put_table-count-2
 sub_put_table_2 c = search rules
 
-part-put_table_start_2 : tie.Need-slice_bounds-put_table-start-2
-part-put_table_start_2 c = search rules
+part_put_table_start_2 : tie.Need-slice_bounds-put_table-start-2
+part_put_table_start_2 c = search rules
 
-part-put_table_end_2 : tie.Need-slice_bounds-put_table-end-2
-part-put_table_end_2 c = search rules
+part_put_table_end_2 : tie.Need-slice_bounds-put_table-end-2
+part_put_table_end_2 c = search rules
 
 put_table_requires_2 : tie.Need-put_table-requires-2
 put_table_requires_2 c κs =
     let b = c.before.before in
     (large-part (room_1 b) 8752 64 (lit≤ tt) (large_1 b), (start_1 b).requires.1.1)
 
-sub_put-counts : tie.Need-slice_bounds-put_counts-count
-sub_put-counts c = search rules
+sub_put_counts : tie.Need-slice_bounds-put_counts-count
+sub_put_counts c = search rules
 
 part-put-counts-start : tie.Need-slice_bounds-put_counts-start
 part-put-counts-start c = search rules
@@ -71,8 +71,8 @@ part-put-counts-start c = search rules
 part-put-counts-end : tie.Need-slice_bounds-put_counts-end
 part-put-counts-end c = le_trans (lit≤ tt) (large_2 c.before)
 
-put-counts_requires : tie.Need-put_counts-requires
-put-counts_requires c κs = search rules
+put_counts_requires : tie.Need-put_counts-requires
+put_counts_requires c κs = search rules
 
 same_length : tie.Need-shape_of-room
 same_length c =
@@ -100,16 +100,16 @@ write_counts_spec =
     tie.close
     (tie.spec
     sub_put_table
-    part-put_table_start
-    part-put_table_end
+    part_put_table_start
+    part_put_table_end
     put_table_requires
     sub_put_table_2
-    part-put_table_start_2
-    part-put_table_end_2
+    part_put_table_start_2
+    part_put_table_end_2
     put_table_requires_2
-    sub_put-counts
+    sub_put_counts
     part-put-counts-start
     part-put-counts-end
-    put-counts_requires
+    put_counts_requires
     same_length
     returns)

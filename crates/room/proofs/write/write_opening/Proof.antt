@@ -97,8 +97,8 @@ large_7 c =
 cast_t12 : tie.Need-overflow_cast-head
 cast_t12 c = search rules
 
-sub_put-twos : tie.Need-slice_bounds-put_twos-count
-sub_put-twos c = lit≤ tt
+sub_put_twos : tie.Need-slice_bounds-put_twos-count
+sub_put_twos c = lit≤ tt
 
 part-put-twos-start : tie.Need-slice_bounds-put_twos-start
 part-put-twos-start c = lit≤ tt
@@ -106,40 +106,40 @@ part-put-twos-start c = lit≤ tt
 part-put-twos-end : tie.Need-slice_bounds-put_twos-end
 part-put-twos-end c = search rules
 
-slice_aggregate_put-twos : tie.Need-slice_bounds-put_twos-end-2
-slice_aggregate_put-twos c = search rules
+slice_aggregate_put_twos : tie.Need-slice_bounds-put_twos-end-2
+slice_aggregate_put_twos c = search rules
 
-put-twos_requires : tie.Need-put_twos-requires
-put-twos_requires c κs = search rules
+put_twos_requires : tie.Need-put_twos-requires
+put_twos_requires c κs = search rules
 
 copy_at_requires : tie.Need-copy_at-requires
 copy_at_requires c κs = search rules
 
-sub_put-twos_2 : tie.Need-slice_bounds-put_twos-count-2
-sub_put-twos_2 c = lit≤ tt
+sub_put_twos_2 : tie.Need-slice_bounds-put_twos-count-2
+sub_put_twos_2 c = lit≤ tt
 
-part-put-twos-start_2 : tie.Need-slice_bounds-put_twos-start-2
-part-put-twos-start_2 c = lit≤ tt
+part-put-twos_start_2 : tie.Need-slice_bounds-put_twos-start-2
+part-put-twos_start_2 c = lit≤ tt
 
-part-put-twos-end_2 : tie.Need-slice_bounds-put_twos-end-3
-part-put-twos-end_2 c = le_trans (lit≤ tt) (large_2 c.before)
+part-put-twos_end_2 : tie.Need-slice_bounds-put_twos-end-3
+part-put-twos_end_2 c = le_trans (lit≤ tt) (large_2 c.before)
 
-put-twos_requires_2 : tie.Need-put_twos-requires-2
-put-twos_requires_2 c κs =
+put_twos_requires_2 : tie.Need-put_twos-requires-2
+put_twos_requires_2 c κs =
     let b = c.before.before in
     large-part (room_2 b) 8208 384 (lit≤ tt) (large_2 b) ∙ ap (λ (k : ℕ). k * 2) (sym (start_2 b).requires.conditions)
 
-sub_put-twos_3 : tie.Need-slice_bounds-put_twos-count-3
-sub_put-twos_3 c = lit≤ tt
+sub_put_twos_3 : tie.Need-slice_bounds-put_twos-count-3
+sub_put_twos_3 c = lit≤ tt
 
-part-put-twos-start_3 : tie.Need-slice_bounds-put_twos-start-3
-part-put-twos-start_3 c = lit≤ tt
+part-put-twos_start_3 : tie.Need-slice_bounds-put_twos-start-3
+part-put-twos_start_3 c = lit≤ tt
 
-part-put-twos-end_3 : tie.Need-slice_bounds-put_twos-end-4
-part-put-twos-end_3 c = le_trans (lit≤ tt) (large_3 c.before)
+part-put-twos_end_3 : tie.Need-slice_bounds-put_twos-end-4
+part-put-twos_end_3 c = le_trans (lit≤ tt) (large_3 c.before)
 
-put-twos_requires_3 : tie.Need-put_twos-requires-3
-put-twos_requires_3 c κs =
+put_twos_requires_3 : tie.Need-put_twos-requires-3
+put_twos_requires_3 c κs =
     let b = c.before.before in
     large-part (room_3 b) 8592 64 (lit≤ tt) (large_3 b) ∙ ap (λ (k : ℕ). k * 2) (sym (start_3 b).requires.rules)
 
@@ -175,11 +175,11 @@ clear_requires_2 c κs = tt
 sub_put_plain_order : tie.Need-slice_bounds-put_plain_order-count
 sub_put_plain_order c = lit≤ tt
 
-part-put_plain_order-start : tie.Need-slice_bounds-put_plain_order-start
-part-put_plain_order-start c = lit≤ tt
+part_put_plain_order_start : tie.Need-slice_bounds-put_plain_order-start
+part_put_plain_order_start c = lit≤ tt
 
-part-put_plain_order-end : tie.Need-slice_bounds-put_plain_order-end
-part-put_plain_order-end c = le_trans (lit≤ tt) (large_7 c.before)
+part_put_plain_order_end : tie.Need-slice_bounds-put_plain_order-end
+part_put_plain_order_end c = le_trans (lit≤ tt) (large_7 c.before)
 
 put_plain_order_requires : tie.Need-put_plain_order-requires
 put_plain_order_requires c κs = large-part (room_7 c.before.before) 8816 256 (lit≤ tt) (large_7 c.before.before)
@@ -216,7 +216,7 @@ returns c =
     let s = start_1 one in
     let a = s.args in
     let l0 = a.room.now in
-    opened-written a.e a.t a.rules a.conditions a.book.now a.rule-places.now a.rule-conditions.now a.condition_places_lem.now
+    opened-written a.e a.t a.rules a.conditions a.book.now a.rule_places_are.now a.rule_conditions_are.now a.condition_places_lem.now
     l0 (room_1 one) (room_2 two) (room_3 three) (room_4 four) (room_5 five) (room_6 six) (room_7 seven) (put (room_7 seven) 8816 256 eight.before.put_plain_order.new.0)
     s.requires
     (ap (put l0 0 16) one.before.put_twos.ensures) one.room-1.given.1
@@ -233,20 +233,20 @@ write_opening_spec =
     tie.close
     (tie.spec
     cast_t12
-    sub_put-twos
+    sub_put_twos
     part-put-twos-start
     part-put-twos-end
-    slice_aggregate_put-twos
-    put-twos_requires
+    slice_aggregate_put_twos
+    put_twos_requires
     copy_at_requires
-    sub_put-twos_2
-    part-put-twos-start_2
-    part-put-twos-end_2
-    put-twos_requires_2
-    sub_put-twos_3
-    part-put-twos-start_3
-    part-put-twos-end_3
-    put-twos_requires_3
+    sub_put_twos_2
+    part-put-twos_start_2
+    part-put-twos_end_2
+    put_twos_requires_2
+    sub_put_twos_3
+    part-put-twos_start_3
+    part-put-twos_end_3
+    put_twos_requires_3
     copy_at_requires_2
     sub_clear
     part_clear_start
@@ -257,8 +257,8 @@ write_opening_spec =
     part_clear_end_2
     clear_requires_2
     sub_put_plain_order
-    part-put_plain_order-start
-    part-put_plain_order-end
+    part_put_plain_order_start
+    part_put_plain_order_end
     put_plain_order_requires
     same_length
     returns)

@@ -18,8 +18,8 @@ sub_copy_from c = search rules
 copy_from_requires_2 : tie.Need-copy_from-requires-2
 copy_from_requires_2 c κs = search rules
 
-shared_slice_read-next : tie.Need-bounds-order-n
-shared_slice_read-next c = search rules
+shared_slice_read_next : tie.Need-bounds-order-n
+shared_slice_read_next c = search rules
 
 slice_write_next : tie.Need-bounds-next-p
 slice_write_next c = search rules
@@ -42,7 +42,7 @@ put_in_spec =
     add_copy_from
     sub_copy_from
     copy_from_requires_2
-    shared_slice_read-next
+    shared_slice_read_next
     slice_write_next
     same_length
     returns)

@@ -3,7 +3,7 @@
 use Prim.Native.Nat.{ℕ, ◌+◌, ◌-◌, ◌/◌}
 use native.Mathlib.Omega.{arith}
 use borrow.Author.Rules.{rules}
-use Rattle.row.proofs.OrderLaws.{Between, between-all, between-met, between-above, between-below}
+use Rattle.row.proofs.OrderLaws.{Between, between_all, between_met, between_above, between_below}
 use Rattle.row.proofs.order.rank_of.Statement.{statement}
 use Rattle.row.proofs.order.rank_of.Tie as tie
 
@@ -18,22 +18,22 @@ abbrev mid : tie.At-loop-low invariant_loop decreases_loop → ℕ
 mid c = (c.loop-low.low + c.loop-low.high) / 2
 
 loop_holds : tie.Need-loop-low-init invariant_loop decreases_loop
-loop_holds c = between-all _ _ _ _ (omega arith)
+loop_holds c = between_all _ _ _ _ (omega arith)
 
 add_mid : tie.Need-overflow_add-mid invariant_loop decreases_loop
 add_mid c = search rules
 
-shared_slice_read-reading-at : tie.Need-bounds-order-mid invariant_loop decreases_loop
-shared_slice_read-reading-at c = search rules
+shared_slice_read_reading-at : tie.Need-bounds-order-mid invariant_loop decreases_loop
+shared_slice_read_reading-at c = search rules
 
-cast_reading-at : tie.Need-overflow_cast-order invariant_loop decreases_loop
-cast_reading-at c = omega (arith, c.shared_slice_known-in-loop-low-1.given (mid c.before.before))
+cast_reading_at : tie.Need-overflow_cast-order invariant_loop decreases_loop
+cast_reading_at c = omega (arith, c.shared_slice_known-in-loop-low-1.given (mid c.before.before))
 
-reading-at_requires : tie.Need-reading_at-r-requires invariant_loop decreases_loop
-reading-at_requires c κs = omega (arith, c.shared_slice_known-in-loop-low-1.given (mid c.before.before))
+reading_at_requires : tie.Need-reading_at-r-requires invariant_loop decreases_loop
+reading_at_requires c κs = omega (arith, c.shared_slice_known-in-loop-low-1.given (mid c.before.before))
 
-is-less_requires : tie.Need-is_less-requires invariant_loop decreases_loop
-is-less_requires c κs = search rules
+is_less_requires : tie.Need-is_less-requires invariant_loop decreases_loop
+is_less_requires c κs = search rules
 
 add_low : tie.Need-overflow_add-low invariant_loop decreases_loop
 add_low c = search rules
@@ -45,7 +45,7 @@ loop_again : tie.Need-loop-low-preserved-then-is_less invariant_loop decreases_l
 loop_again c =
     let e = c.before.before in
     let l = e.before.before.before in
-    between-above _ _ _ _ (omega arith) _ _ l.loop-low.invariant (mid l) (omega arith) (rw (← e.reading_at-r.ensures, ← c.before.is_less.ensures) c.if-is_less.true)
+    between_above _ _ _ _ (omega arith) _ _ l.loop-low.invariant (mid l) (omega arith) (rw (← e.reading_at-r.ensures, ← c.before.is_less.ensures) c.if-is_less.true)
 
 loop_less_2 : tie.Need-loop-low-smaller invariant_loop decreases_loop
 loop_less_2 c = search rules
@@ -54,10 +54,10 @@ loop_again_2 : tie.Need-loop-low-preserved invariant_loop decreases_loop
 loop_again_2 c =
     let e = c.before.before in
     let l = e.before.before.before in
-    between-below _ _ _ _ (omega arith) _ _ l.loop-low.invariant (mid l) (omega arith) (omega arith) (rw (← e.reading_at-r.ensures, ← c.before.is_less.ensures) c.if-is_less.false)
+    between_below _ _ _ _ (omega arith) _ _ l.loop-low.invariant (mid l) (omega arith) (omega arith) (rw (← e.reading_at-r.ensures, ← c.before.is_less.ensures) c.if-is_less.false)
 
 returns : tie.Need-returns invariant_loop decreases_loop
-returns c = between-met _ _ _ _ (omega arith) _ _ c.before.loop-low.invariant (omega arith)
+returns c = between_met _ _ _ _ (omega arith) _ _ c.before.loop-low.invariant (omega arith)
 
 pub rank_of_spec : {M : Type 1} → statement M
 rank_of_spec =
@@ -67,10 +67,10 @@ rank_of_spec =
     decreases_loop
     loop_holds
     add_mid
-    shared_slice_read-reading-at
-    cast_reading-at
-    reading-at_requires
-    is-less_requires
+    shared_slice_read_reading-at
+    cast_reading_at
+    reading_at_requires
+    is_less_requires
     add_low
     loop_less
     loop_again

@@ -8,17 +8,17 @@ use Rattle.row.proofs.order.stands_at.Tie as tie
 returns : tie.Need-returns-then-n-p
 returns c = rw (le-ltb _ _ c.if-n-p.true)
 
-shared_slice_read-reading-at : tie.Need-bounds-order-p
-shared_slice_read-reading-at c = search rules
+shared_slice_read_reading-at : tie.Need-bounds-order-p
+shared_slice_read_reading-at c = search rules
 
-cast_reading-at : tie.Need-overflow_cast-order
-cast_reading-at c = omega (arith, c.shared_slice_known-3-1.given c.before.before.before.before.args.p)
+cast_reading_at : tie.Need-overflow_cast-order
+cast_reading_at c = omega (arith, c.shared_slice_known-3-1.given c.before.before.before.before.args.p)
 
-reading-at_requires : tie.Need-reading_at-requires
-reading-at_requires c κs = omega (arith, c.shared_slice_known-3-1.given c.before.before.before.before.args.p)
+reading_at_requires : tie.Need-reading_at-requires
+reading_at_requires c κs = omega (arith, c.shared_slice_known-3-1.given c.before.before.before.before.args.p)
 
-is-same_requires : tie.Need-is_same-requires
-is-same_requires c κs = search rules
+is_same_requires : tie.Need-is_same-requires
+is_same_requires c κs = search rules
 
 returns_2 : tie.Need-returns
 returns_2 c = rw (lt-ltb _ _ c.before.before.before.if-n-p.false, ← c.before.reading_at.ensures) c.is_same.ensures
@@ -28,8 +28,8 @@ stands_at_spec =
     tie.close
     (tie.spec
     returns
-    shared_slice_read-reading-at
-    cast_reading-at
-    reading-at_requires
-    is-same_requires
+    shared_slice_read_reading-at
+    cast_reading_at
+    reading_at_requires
+    is_same_requires
     returns_2)

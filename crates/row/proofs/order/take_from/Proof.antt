@@ -5,8 +5,8 @@ use Rattle.row.proofs.OrderLaws.{moved_out-set}
 use Rattle.row.proofs.order.take_from.Statement.{statement}
 use Rattle.row.proofs.order.take_from.Tie as tie
 
-slice_read-slot : tie.Need-bounds-order-p
-slice_read-slot c = search rules
+slice_read_slot : tie.Need-bounds-order-p
+slice_read_slot c = search rules
 
 add_move_down : tie.Need-overflow_add-p
 add_move_down c = search rules
@@ -39,7 +39,7 @@ pub take_from_spec : {M : Type 1} → statement M
 take_from_spec =
     tie.close
     (tie.spec
-    slice_read-slot
+    slice_read_slot
     add_move_down
     sub_move_down
     sub_move_down_2
