@@ -1,5 +1,6 @@
 // A reading: three whole numbers, its order, and the twelve bytes in which a room keeps it.
 #![tactic(auto)]
+
 ghost use Rattle.std.specs.Prelude.{◌≡◌, ◌+◌, ◌*◌, ◌≤◌, length};
 ghost use Rattle.numbers.specs.Spliced.{spliced};
 ghost use Rattle.reading.specs.Reading.{place, is_less, is_same, reading_at, reading_bytes};

@@ -3,7 +3,7 @@
 use Prim.Native.Nat.{◌/◌, ◌%◌}
 use mathlib.Core.Path.{◌≡◌}
 use mathlib.Core.List.{[], ◌∷◌}
-use native.Mathlib.Numerals.{add-one, add-two, add_three}
+use native.Mathlib.Numerals.{add-one, add-two, add-three}
 use native.Mathlib.Omega.{arith}
 use borrow.Author.Rules.{rules}
 use lib.ListN.{length-set}
@@ -54,7 +54,7 @@ returns c =
     let x = c.args.x in
     let first : x / 256 / 256 / 256 % 256 ≡ x / 16777216 = omega arith in
     let second : x / 256 / 256 % 256 ≡ x / 65536 % 256 = omega arith in
-    rw (first, second, add-one, add-two, add_three)
+    rw (first, second, add-one, add-two, add-three)
     (sets_spliced c.args.out.now c.args.at (x / 16777216 ∷ x / 65536 % 256 ∷ x / 256 % 256 ∷ x % 256 ∷ []) (omega arith))
 
 pub put_four_spec : {M : Type 1} → statement M

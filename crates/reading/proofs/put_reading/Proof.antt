@@ -29,11 +29,8 @@ same_length c = search rules
 
 returns : tie.Need-returns
 returns c =
-    let a = c.before.before.before.before.before.before.before.before.before.before.before.before.before.args in
-    let three = c.before.before in
-    let two = three.before.before.before.before in
-    let one = two.before.before.before.before in
-    reading_bytes-spliced a.bytes.now one.put_four.new.0 two.put_four-2.new.0 three.put_four-3.new.0 (a.i * 12) a.r (omega arith) one.put_four.ensures two.put_four-2.ensures three.put_four-3.ensures
+    let a = c.args in
+    reading_bytes-spliced a.bytes.now c.put_four.new.out c.put_four-2.new.out c.put_four-3.new.out (a.i * 12) a.r (omega arith) c.put_four.ensures c.put_four-2.ensures c.put_four-3.ensures
 
 pub put_reading_spec : {M : Type 1} → statement M
 put_reading_spec =

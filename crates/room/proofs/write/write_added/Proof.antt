@@ -19,31 +19,31 @@ abbrev start_1 : tie.After-room-1 → tie.Start
 start_1 c = c.before.before.before.before.before.before.before.before.before.before
 
 abbrev room_1 : tie.After-room-1 → List ℕ
-room_1 c = c.before.copy_at.new.0
+room_1 c = c.before.copy_at.new.part
 
 large_1 : (c : tie.After-room-1) → 18288 ≤ length (room_1 c)
 large_1 c =
     let s = start_1 c in
-    large-first s.args.most s.args.room.now (room_1 c) c.before.copy_at.auto.0 s.requires.0.large
+    large-first s.args.most s.args.room.now (room_1 c) c.before.copy_at.auto.part s.requires.0.large
 
 abbrev room_2 : tie.After-room-2-1 → List ℕ
-room_2 c = c.before.copy_at-2.new.0
+room_2 c = c.before.copy_at-2.new.part
 
 large_2 : (c : tie.After-room-2-1) → 18288 ≤ length (room_2 c)
 large_2 c =
     let b = c.before.before.before.before in
-    large_kept (room_1 b) (room_2 c) c.before.copy_at-2.auto.0 (large_1 b)
+    large_kept (room_1 b) (room_2 c) c.before.copy_at-2.auto.part (large_1 b)
 
 abbrev room_3 : tie.After-room-3-1 → List ℕ
-room_3 c = c.before.copy_at-3.new.0
+room_3 c = c.before.copy_at-3.new.part
 
 large_3 : (c : tie.After-room-3-1) → 18288 ≤ length (room_3 c)
 large_3 c =
     let b = c.before.before.before.before in
-    large_kept (room_2 b) (room_3 c) c.before.copy_at-3.auto.0 (large_2 b)
+    large_kept (room_2 b) (room_3 c) c.before.copy_at-3.auto.part (large_2 b)
 
 abbrev room_4 : tie.After-room-4-1 → List ℕ
-room_4 c = put (room_3 c.before.before.before.before) 9072 3072 c.before.put_reading.new.0
+room_4 c = put (room_3 c.before.before.before.before) 9072 3072 c.before.put_reading.new.bytes
 
 large_4 : (c : tie.After-room-4-1) → 18288 ≤ length (room_4 c)
 large_4 c =
@@ -54,7 +54,7 @@ abbrev start_4 : tie.After-room-4-1 → tie.Start
 start_4 c = start_1 c.before.before.before.before.before.before.before.before.before.before.before.before
 
 abbrev room_5 : tie.After-room-5-1 → List ℕ
-room_5 c = put (room_4 c.before.before.before.before) 12144 6144 c.before.copy_at-4.new.0
+room_5 c = put (room_4 c.before.before.before.before) 12144 6144 c.before.copy_at-4.new.part
 
 large_5 : (c : tie.After-room-5-1) → 18288 ≤ length (room_5 c)
 large_5 c =
@@ -103,7 +103,7 @@ copy_at_requires_4 : tie.Need-copy_at-requires-4
 copy_at_requires_4 c κs =
     let b = c.before.before in
     let s = start_4 b in
-    (row_fits s.args.slot (part (room_4 b) 12144 6144) s.fits.slot.fits (large-part (room_4 b) 12144 6144 (lit≤ tt) (large_4 b)), le_of_eq (sym s.requires.1))
+    (row_fits s.args.slot (part (room_4 b) 12144 6144) s.ranges.slot.fits (large-part (room_4 b) 12144 6144 (lit≤ tt) (large_4 b)), le_of_eq (sym s.requires.1))
 
 write_counts_requires : tie.Need-write_counts-requires
 write_counts_requires c κs =
@@ -119,12 +119,12 @@ same_length c =
     let three = four.before.before.before.before in
     let two = three.before.before.before.before in
     let one = two.before.before.before.before in
-    six.before.write_counts.auto.0
+    six.before.write_counts.auto.room
     ∙ five.room-5-1.given.1
     ∙ four.room-4-1.given.1
-    ∙ three.before.copy_at-3.auto.0
-    ∙ two.before.copy_at-2.auto.0
-    ∙ one.before.copy_at.auto.0
+    ∙ three.before.copy_at-3.auto.part
+    ∙ two.before.copy_at-2.auto.part
+    ∙ one.before.copy_at.auto.part
 
 returns : tie.Need-returns
 returns c =
@@ -139,10 +139,10 @@ returns c =
     added-written a.most
     (record { readings = a.readings; tokens = a.tokens; ends = a.ends.now; completes = a.completes.now; order = a.order.now; nodes = a.nodes.now; lasts = a.lasts.now })
     a.slot a.r a.row.now
-    a.room.now (room_1 one) (room_2 two) (room_3 three) (room_4 four) (room_5 five) six.before.write_counts.new.0 s.requires.0 s.requires.1
-    one.before.copy_at.ensures one.before.copy_at.auto.0
-    two.before.copy_at-2.ensures two.before.copy_at-2.auto.0
-    three.before.copy_at-3.ensures three.before.copy_at-3.auto.0
+    a.room.now (room_1 one) (room_2 two) (room_3 three) (room_4 four) (room_5 five) six.before.write_counts.new.room s.requires.0 s.requires.1
+    one.before.copy_at.ensures one.before.copy_at.auto.part
+    two.before.copy_at-2.ensures two.before.copy_at-2.auto.part
+    three.before.copy_at-3.ensures three.before.copy_at-3.auto.part
     (ap (put (room_3 three) 9072 3072) four.before.put_reading.ensures) four.room-4-1.given.1
     (ap (put (room_4 four) 12144 6144) five.before.copy_at-4.ensures) five.room-5-1.given.1
     (six.before.write_counts.ensures a.most)

@@ -19,7 +19,7 @@ abbrev start_1 : tie.After-room-1 → tie.Start
 start_1 c = c.before.before.before.before.before.before
 
 abbrev room_1 : tie.After-room-1 → List ℕ
-room_1 c = put (start_1 c).args.room.now 8688 64 c.before.put_table.new.0
+room_1 c = put (start_1 c).args.room.now 8688 64 c.before.put_table.new.table
 
 large_1 : (c : tie.After-room-1) → 18288 ≤ length (room_1 c)
 large_1 c =
@@ -27,7 +27,7 @@ large_1 c =
     large_kept s.args.room.now (room_1 c) c.room-1.given.1 s.requires.0
 
 abbrev room_2 : tie.After-room-2-1 → List ℕ
-room_2 c = put (room_1 c.before.before.before.before) 8752 64 c.before.put_table-2.new.0
+room_2 c = put (room_1 c.before.before.before.before) 8752 64 c.before.put_table-2.new.table
 
 large_2 : (c : tie.After-room-2-1) → 18288 ≤ length (room_2 c)
 large_2 c =
@@ -90,7 +90,7 @@ returns c = λ T fits.
     let a = s.args in
     let l0 = a.room.now in
     counted-written T a.readings a.tokens a.ends.now a.completes.now
-    l0 (room_1 one) (room_2 two) (put (room_2 two) 0 16 three.before.put_counts.new.0) s.requires.0
+    l0 (room_1 one) (room_2 two) (put (room_2 two) 0 16 three.before.put_counts.new.head) s.requires.0
     (ap (put l0 8688 64) one.before.put_table.ensures) one.room-1.given.1
     (ap (put (room_1 one) 8752 64) two.before.put_table-2.ensures) two.room-2-1.given.1
     (ap (put (room_2 two) 0 16) three.before.put_counts.ensures) three.room-3-1.given.1

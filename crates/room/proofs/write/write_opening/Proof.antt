@@ -19,7 +19,7 @@ abbrev start_1 : tie.After-room-1 → tie.Start
 start_1 c = c.before.before.before.before.before.before.before.before.before
 
 abbrev room_1 : tie.After-room-1 → List ℕ
-room_1 c = put (start_1 c).args.room.now 0 16 c.before.put_twos.new.0
+room_1 c = put (start_1 c).args.room.now 0 16 c.before.put_twos.new.part
 
 large_1 : (c : tie.After-room-1) → 18288 ≤ length (room_1 c)
 large_1 c =
@@ -30,18 +30,18 @@ abbrev start_2 : tie.After-room-2-1 → tie.Start
 start_2 c = start_1 c.before.before.before.before
 
 abbrev room_2 : tie.After-room-2-1 → List ℕ
-room_2 c = c.before.copy_at.new.0
+room_2 c = c.before.copy_at.new.part
 
 large_2 : (c : tie.After-room-2-1) → 18288 ≤ length (room_2 c)
 large_2 c =
     let b = c.before.before.before.before in
-    large_kept (room_1 b) (room_2 c) c.before.copy_at.auto.0 (large_1 b)
+    large_kept (room_1 b) (room_2 c) c.before.copy_at.auto.part (large_1 b)
 
 abbrev start_3 : tie.After-room-3-1 → tie.Start
 start_3 c = start_2 c.before.before.before.before
 
 abbrev room_3 : tie.After-room-3-1 → List ℕ
-room_3 c = put (room_2 c.before.before.before.before) 8208 384 c.before.put_twos-2.new.0
+room_3 c = put (room_2 c.before.before.before.before) 8208 384 c.before.put_twos-2.new.part
 
 large_3 : (c : tie.After-room-3-1) → 18288 ≤ length (room_3 c)
 large_3 c =
@@ -52,7 +52,7 @@ abbrev start_4 : tie.After-room-4-1 → tie.Start
 start_4 c = start_3 c.before.before.before.before
 
 abbrev room_4 : tie.After-room-4-1 → List ℕ
-room_4 c = put (room_3 c.before.before.before.before) 8592 64 c.before.put_twos-3.new.0
+room_4 c = put (room_3 c.before.before.before.before) 8592 64 c.before.put_twos-3.new.part
 
 large_4 : (c : tie.After-room-4-1) → 18288 ≤ length (room_4 c)
 large_4 c =
@@ -63,18 +63,18 @@ abbrev start_5 : tie.After-room-5-1 → tie.Start
 start_5 c = start_4 c.before.before.before.before
 
 abbrev room_5 : tie.After-room-5-1 → List ℕ
-room_5 c = c.before.copy_at-2.new.0
+room_5 c = c.before.copy_at-2.new.part
 
 large_5 : (c : tie.After-room-5-1) → 18288 ≤ length (room_5 c)
 large_5 c =
     let b = c.before.before.before.before in
-    large_kept (room_4 b) (room_5 c) c.before.copy_at-2.auto.0 (large_4 b)
+    large_kept (room_4 b) (room_5 c) c.before.copy_at-2.auto.part (large_4 b)
 
 abbrev start_6 : tie.After-room-6-1 → tie.Start
 start_6 c = start_5 c.before.before.before.before
 
 abbrev room_6 : tie.After-room-6-1 → List ℕ
-room_6 c = put (room_5 c.before.before.before.before) 8688 64 c.before.clear.new.0
+room_6 c = put (room_5 c.before.before.before.before) 8688 64 c.before.clear.new.part
 
 large_6 : (c : tie.After-room-6-1) → 18288 ≤ length (room_6 c)
 large_6 c =
@@ -85,7 +85,7 @@ abbrev start_7 : tie.After-room-7-1 → tie.Start
 start_7 c = start_6 c.before.before.before.before
 
 abbrev room_7 : tie.After-room-7-1 → List ℕ
-room_7 c = put (room_6 c.before.before.before.before) 8752 64 c.before.clear-2.new.0
+room_7 c = put (room_6 c.before.before.before.before) 8752 64 c.before.clear-2.new.part
 
 large_7 : (c : tie.After-room-7-1) → 18288 ≤ length (room_7 c)
 large_7 c =
@@ -197,10 +197,10 @@ same_length c =
     eight.room-8-1.given.1
     ∙ seven.room-7-1.given.1
     ∙ six.room-6-1.given.1
-    ∙ five.before.copy_at-2.auto.0
+    ∙ five.before.copy_at-2.auto.part
     ∙ four.room-4-1.given.1
     ∙ three.room-3-1.given.1
-    ∙ two.before.copy_at.auto.0
+    ∙ two.before.copy_at.auto.part
     ∙ one.room-1.given.1
 
 returns : tie.Need-returns
@@ -216,14 +216,14 @@ returns c =
     let s = start_1 one in
     let a = s.args in
     let l0 = a.room.now in
-    opened-written a.e a.t a.rules a.conditions a.book.now a.rule_places_are.now a.rule_conditions_are.now a.condition_places_lem.now
-    l0 (room_1 one) (room_2 two) (room_3 three) (room_4 four) (room_5 five) (room_6 six) (room_7 seven) (put (room_7 seven) 8816 256 eight.before.put_plain_order.new.0)
+    opened-written a.e a.t a.rules a.conditions a.book.now a.rule_places.now a.rule_conditions.now a.condition_places.now
+    l0 (room_1 one) (room_2 two) (room_3 three) (room_4 four) (room_5 five) (room_6 six) (room_7 seven) (put (room_7 seven) 8816 256 eight.before.put_plain_order.new.order)
     s.requires
     (ap (put l0 0 16) one.before.put_twos.ensures) one.room-1.given.1
-    two.before.copy_at.ensures two.before.copy_at.auto.0
+    two.before.copy_at.ensures two.before.copy_at.auto.part
     (ap (put (room_2 two) 8208 384) three.before.put_twos-2.ensures) three.room-3-1.given.1
     (ap (put (room_3 three) 8592 64) four.before.put_twos-3.ensures) four.room-4-1.given.1
-    five.before.copy_at-2.ensures five.before.copy_at-2.auto.0
+    five.before.copy_at-2.ensures five.before.copy_at-2.auto.part
     (ap (put (room_5 five) 8688 64) six.before.clear.ensures) six.room-6-1.given.1
     (ap (put (room_6 six) 8752 64) seven.before.clear-2.ensures) seven.room-7-1.given.1
     (ap (put (room_7 seven) 8816 256) eight.before.put_plain_order.ensures) eight.room-8-1.given.1
