@@ -16,7 +16,7 @@ use Rattle.book.specs.Record.{record_at, test_size}
 use Rattle.book.specs.Rules.{Rule, tests_size, conditions_size, rules_size, rule_places, condition_places_in, condition_places}
 use Rattle.book.specs.Tests.{tests_from, tests_at}
 use Rattle.book.specs.Wording.{wording_in, wording_place_in, sought}
-use Rattle.book.specs.Stands.{Laid, TestsStand, ConditionsStand, RulesStand, BookStands, conditions_of}
+use Rattle.book.specs.Stands.{Laid, rule_size, TestsStand, ConditionsStand, RulesStand, BookStands, conditions_of}
 use Rattle.book.specs.Limits.{All, ConditionKept, RuleKept, Kept}
 use Rattle.book.proofs.RuleAt.{rule-within, rule-number, rule-wording}
 use Rattle.book.proofs.TestsFrom.{NoTest, tests_from-none, tests_from-more}
@@ -37,33 +37,33 @@ module _ (book : List ℕ) where
   pub rule_places-numbers : (at : ℕ) (rules : List Rule) → RulesStand book at rules → map (λ p. uint 2 book (p + 1)) (rule_places at rules) ≡ map (λ rule. rule.number) rules
   unfolding rule_places
   rule_places-numbers at [] h = refl
-  rule_places-numbers at (rule ∷ rules) h = rw (rule-number book at rule.number h.0.begins, rule_places-numbers _ rules h.1)
+  rule_places-numbers at (rule ∷ rules) h = rw (rule-number book at rule.number h.0.begins, rule_places-numbers (at + rule_size rule) rules h.1)
 
   pub rule_places_wordings : (at : ℕ) (rules : List Rule) → RulesStand book at rules → map (λ p. take 24 (drop (p + 3) book)) (rule_places at rules) ≡ map (λ rule. rule.wording) rules
   unfolding rule_places
   rule_places_wordings at [] h = refl
   rule_places_wordings at (rule ∷ rules) h =
-      rw (h.0.wording, rule-wording book at rule.number h.0.begins, rule_places_wordings _ rules h.1)
+      rw (h.0.wording, rule-wording book at rule.number h.0.begins, rule_places_wordings (at + rule_size rule) rules h.1)
 
   pub rule_places-within : (at : ℕ) (rules : List Rule) → RulesStand book at rules → (k : ℕ) → k < length rules → get_or (rule_places at rules) k 0 + 27 ≤ length book
   unfolding rule_places
   rule_places-within at [] h k l = absurd (omega arith)
   rule_places-within at (rule ∷ rules) h zero l = rule-within book at rule.number h.0.begins
-  rule_places-within at (rule ∷ rules) h (suc k) l = rule_places-within _ rules h.1 k (omega arith)
+  rule_places-within at (rule ∷ rules) h (suc k) l = rule_places-within (at + rule_size rule) rules h.1 k (omega arith)
 
   -- ---- a rule sought by its number
 
   pub sought-places : (at : ℕ) (rules : List Rule) (n : ℕ) → RulesStand book at rules → sought book (rule_places at rules) n ≡ wording_place_in at rules n
   unfolding rule_places sought wording_place_in
   sought-places at [] n h = refl
-  sought-places at (rule ∷ rules) n h = rw (rule-number book at rule.number h.0.begins, sought-places _ rules n h.1)
+  sought-places at (rule ∷ rules) n h = rw (rule-number book at rule.number h.0.begins, sought-places (at + rule_size rule) rules n h.1)
 
   pub wording_place_shows : (at : ℕ) (rules : List Rule) (n : ℕ) → RulesStand book at rules → Shows book (wording_place_in at rules n) (wording_in rules n)
   unfolding wording_place_in wording_in
   wording_place_shows at [] n h = refl
   wording_place_shows at (rule ∷ rules) n h =
       let here : at + 27 ≤ length book = rule-within book at rule.number h.0.begins in
-      shows_cond book (eqb rule.number n) _ _ _ _ (omega arith, sym (h.0.wording ∙ rule-wording book at rule.number h.0.begins)) (wording_place_shows _ rules n h.1)
+      shows_cond book (eqb rule.number n) _ _ _ _ (omega arith, sym (h.0.wording ∙ rule-wording book at rule.number h.0.begins)) (wording_place_shows (at + rule_size rule) rules n h.1)
 
   -- ---- conditions: their tests, which end where the next record is none
 

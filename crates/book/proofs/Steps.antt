@@ -1,11 +1,11 @@
 -- A reading a record at a time: what the tag of a record tells, and how the walk of the definition goes with it. Assumes nothing.
-use Prim.Native.Nat.{ℕ, ◌+◌, ◌-◌}
+use Prim.Native.Nat.{ℕ, ◌+◌}
 use mathlib.Core.Path.{◌≡◌, refl, sym, ap, ◌∙◌}
 use mathlib.Core.List.{List, [], ◌∷◌}
 use native.Mathlib.Omega.{arith}
 use borrow.Author.Tests.{ne_eqb}
 use lib.ListN.{drop}
-use types.Run.{OneOf, miss}
+use types.Run.{OneOf, hit, miss}
 use denote.Enum.Declared.{tag_of}
 use Rattle.book.specs.contracts.record.Record.{the_type}
 use Rattle.book.specs.declared.record.Record.{Record}
@@ -23,6 +23,21 @@ use Rattle.book.specs.Judgement.{judged}
 use Rattle.book.specs.Read.{bytes_of}
 use Rattle.book.specs.Steps.{refusal_of, end_of, over_if, step_by, step_of, no_places, closed, closed_by}
 use Rattle.book.proofs.RecordLaws.{size_of-refused}
+
+-- the tags that a record can have which is not refused, or not the end
+pub tag_unless-refused : (r : Record) → ((n p : ℕ) → r ≡ Refused n p → ⊥) → OneOf (0 ∷ 1 ∷ 2 ∷ 3 ∷ []) (tag_of the_type r)
+tag_unless-refused (Rule n) h = hit (0 ∷ 1 ∷ 2 ∷ 3 ∷ []) 0 tt
+tag_unless-refused Condition h = hit (0 ∷ 1 ∷ 2 ∷ 3 ∷ []) 1 tt
+tag_unless-refused (Test t) h = hit (0 ∷ 1 ∷ 2 ∷ 3 ∷ []) 2 tt
+tag_unless-refused End h = hit (0 ∷ 1 ∷ 2 ∷ 3 ∷ []) 3 tt
+tag_unless-refused (Refused n p) h = absurd (h n p refl)
+
+pub tag_unless-end : (r : Record) → (r ≡ End → ⊥) → OneOf (0 ∷ 1 ∷ 2 ∷ 4 ∷ []) (tag_of the_type r)
+tag_unless-end (Rule n) h = hit (0 ∷ 1 ∷ 2 ∷ 4 ∷ []) 0 tt
+tag_unless-end Condition h = hit (0 ∷ 1 ∷ 2 ∷ 4 ∷ []) 1 tt
+tag_unless-end (Test t) h = hit (0 ∷ 1 ∷ 2 ∷ 4 ∷ []) 2 tt
+tag_unless-end End h = absurd (h refl)
+tag_unless-end (Refused n p) h = hit (0 ∷ 1 ∷ 2 ∷ 4 ∷ []) 4 tt
 
 pub no_refusal : (r : Record) → OneOf (0 ∷ 1 ∷ 2 ∷ 3 ∷ []) (tag_of the_type r) → a.Refused 0 0 ≡ refusal_of r
 unfolding refusal_of

@@ -7,7 +7,7 @@ use native.Mathlib.Numerals.{add-one}
 use native.Mathlib.Omega.{arith}
 use lib.ListN.{length, take, drop, set, replicate, length-append, length-set, take-append-drop}
 use lib.Seq.{append_snoc, take-suc-set, drop-set-lt, drop-drop}
-use types.Run.{OneOf, miss}
+use types.Run.{OneOf, hit, miss}
 use denote.Enum.Declared.{tag_of}
 use Rattle.book.specs.contracts.record.Record.{the_type}
 use Rattle.book.specs.declared.record.Record.{Record}
@@ -25,6 +25,14 @@ NoTest r.Condition = Unit {0}
 NoTest (r.Test t) = ⊥
 NoTest r.End = Unit {0}
 NoTest (r.Refused n p) = Unit {0}
+
+-- the tags that a record can have which is no test
+pub tag_unless-test : (rec : Record) → ((t : Test) → rec ≡ r.Test t → ⊥) → OneOf (0 ∷ 1 ∷ 3 ∷ 4 ∷ []) (tag_of the_type rec)
+tag_unless-test (r.Rule n) h = hit (0 ∷ 1 ∷ 3 ∷ 4 ∷ []) 0 tt
+tag_unless-test r.Condition h = hit (0 ∷ 1 ∷ 3 ∷ 4 ∷ []) 1 tt
+tag_unless-test (r.Test t) h = absurd (h t refl)
+tag_unless-test r.End h = hit (0 ∷ 1 ∷ 3 ∷ 4 ∷ []) 3 tt
+tag_unless-test (r.Refused n p) h = hit (0 ∷ 1 ∷ 3 ∷ 4 ∷ []) 4 tt
 
 no_test_tag : (rec : Record) → OneOf (0 ∷ 1 ∷ 3 ∷ 4 ∷ []) (tag_of the_type rec) → NoTest rec
 no_test_tag (r.Rule n) h = tt

@@ -24,7 +24,7 @@ no_places_requires : tie.Need-no_places-requires invariant_loop decreases_loop
 no_places_requires c κs = search rules
 
 returns : tie.Need-returns-then-book-gt-MOST_BYTES invariant_loop decreases_loop
-returns c = read_too_long c.before.before.before.args.book.now (omega arith) c.no_places.result c.no_places.ensures
+returns c = read_too_long c.args.book.now (omega arith) c.no_places.result c.no_places.ensures
 
 no_places_requires_2 : tie.Need-no_places-places-requires invariant_loop decreases_loop
 no_places_requires_2 c κs = search rules
@@ -32,7 +32,7 @@ no_places_requires_2 c κs = search rules
 loop_holds : tie.Need-loop-record-init invariant_loop decreases_loop
 unfolding standing last_or no_rule condition_count
 loop_holds c =
-    let book = c.before.before.before.args.book.now in
+    let book = c.args.book.now in
     let short : length book ≤ 8192 = omega arith in
     (short, (omega arith, reached-start book short _ _ refl c.no_places-places.ensures))
 
@@ -50,24 +50,24 @@ close_requires c κs = search rules
 
 returns_2 : tie.Need-returns-in_default invariant_loop decreases_loop
 returns_2 c =
-    let l = c.before.before.before.before.loop-record in
-    let e : _ ≡ Over _ = c.before.enum_told-1.given.1 in
+    let l = c.loop-record in
+    let e : _ ≡ Over _ = c.in_default.is in
     c.close.ensures
     ∙ ap (λ (s : Step). closed s l.places) e
-    ∙ reached-over c.before.before.before.before.before.before.before.before.args.book.now l.at l.standing l.places l.invariant.1.1 _ (sym c.before.before.before.read_record-step.ensures ∙ e)
+    ∙ reached-over c.args.book.now l.at l.standing l.places l.invariant.1.1 _ (sym c.read_record-step.ensures ∙ e)
 
 -- a record that is taken leads onward
 onward : (c : tie.In-On invariant_loop decreases_loop)
-    → let l = c.before.before.before.before.loop-record in Onward c.before.before.before.before.before.before.before.before.args.book.now l.at l.standing l.places l.invariant.1.1 c.before.step-1.given.0.0 c.before.step-1.given.0.1.0
+    → let l = c.loop-record in Onward c.args.book.now l.at l.standing l.places l.invariant.1.1 c.in-On.record c.in-On.next
 onward c =
-    let l = c.before.before.before.before.loop-record in
-    reached-on c.before.before.before.before.before.before.before.before.args.book.now l.at l.standing l.places l.invariant.1.1 _ _ (sym c.before.before.before.read_record-step.ensures ∙ c.before.step-1.given.1)
+    let l = c.loop-record in
+    reached-on c.args.book.now l.at l.standing l.places l.invariant.1.1 _ _ (sym c.read_record-step.ensures ∙ c.in-On.is)
 
 note_requires : tie.Need-note-places-requires invariant_loop decreases_loop
-note_requires c κs = let h = (onward c).1 in omega (arith, c.before.before.before.before.loop-record.invariant)
+note_requires c κs = let h = (onward c).1 in omega (arith, c.loop-record.invariant)
 
 stood_requires : tie.Need-stood-standing-requires invariant_loop decreases_loop
-stood_requires c κs = bounded_within _ c.before.before.before.before.before.loop-record.invariant.1.1.kept
+stood_requires c κs = bounded_within _ c.loop-record.invariant.1.1.kept
 
 loop_less : tie.Need-loop-record-smaller invariant_loop decreases_loop
 loop_less c = let h = (onward c.before.before).1 in omega arith
@@ -75,9 +75,9 @@ loop_less c = let h = (onward c.before.before).1 in omega arith
 loop_again : tie.Need-loop-record-preserved invariant_loop decreases_loop
 loop_again c =
     let h = onward c.before.before in
-    let l = c.before.before.before.before.before.before.loop-record in
-    let s : c.stood-standing.result ≡ after l.standing c.before.before.before.step-1.given.0.0 = c.stood-standing.ensures in
-    let p : c.before.note-places.result ≡ noted l.places l.standing c.before.before.before.step-1.given.0.0 l.at = c.before.note-places.ensures in
+    let l = c.loop-record in
+    let s : c.stood-standing.result ≡ after l.standing c.in-On.record = c.stood-standing.ensures in
+    let p : c.note-places.result ≡ noted l.places l.standing c.in-On.record l.at = c.note-places.ensures in
     (l.invariant.0, (h.1.1, rw (s, p) h.0))
 
 pub find_places_spec : {M : Type 1} → statement M

@@ -38,14 +38,14 @@ shared_slice_read_t13 c = search rules
 
 returns_2 : tie.Need-returns
 returns_2 c =
-    let u = c.before.before.before.before.before.before.uint_at in
-    let s = c.before.before.before.before.before.Signed-of in
-    let v = c.before.before.before.before.uint_at-2 in
-    let t = c.before.before.before.signed_of-high in
-    let a = c.before.before.before.before.before.before.before.before.before.args in
+    let u = c.uint_at in
+    let s = c.signed_of-low in
+    let v = c.uint_at-2 in
+    let t = c.signed_of-high in
+    let a = c.args in
     gap_body-is a.body.now a.at (omega arith) _ _
-    (to_z-of_z {w = w64} {z = s.result} (sfits_of s.type-inv) ∙ s.ensures ∙ ap signed u.ensures.0)
-    (to_z-of_z {w = w64} {z = t.result} (sfits_of t.type-inv) ∙ t.ensures ∙ ap signed v.ensures.0)
+    (to_z-of_z {w = w64} {z = s.result} (sfits_of s.type_inv) ∙ s.ensures ∙ ap signed u.ensures.0)
+    (to_z-of_z {w = w64} {z = t.result} (sfits_of t.type_inv) ∙ t.ensures ∙ ap signed v.ensures.0)
 
 pub gap_body_spec : {M : Type 1} → statement M
 gap_body_spec =

@@ -43,43 +43,43 @@ gap_body_requires c κs = search rules
 returns_2 : tie.Need-returns-in-1
 unfolding by_kind
 returns_2 c =
-    let a = c.before.before.before.before.before.before.args in
-    record_at_body a.book.now a.at (omega arith) rule_body 1 c.rule_body.result (λ b. refl) c.before.in-1.keys1 c.rule_body.ensures
+    let a = c.args in
+    record_at_body a.book.now a.at (omega arith) rule_body 1 c.rule_body.result (λ b. refl) c.in-1.is c.rule_body.ensures
 
 returns_3 : tie.Need-returns-in-2
 unfolding by_kind
 returns_3 c =
-    let a = c.before.before.before.before.before.args in
-    record_at_kind a.book.now a.at (omega arith) 2 c.in-2.keys2
+    let a = c.args in
+    record_at_kind a.book.now a.at (omega arith) 2 c.in-2.is
 
 returns_4 : tie.Need-returns-in-3
 unfolding by_kind
 returns_4 c =
-    let a = c.before.before.before.before.before.before.args in
-    record_at_body a.book.now a.at (omega arith) constant_body 3 c.constant_body.result (λ b. refl) c.before.in-3.keys3 c.constant_body.ensures
+    let a = c.args in
+    record_at_body a.book.now a.at (omega arith) constant_body 3 c.constant_body.result (λ b. refl) c.in-3.is c.constant_body.ensures
 
 returns_5 : tie.Need-returns-in-4
 unfolding by_kind
 returns_5 c =
-    let a = c.before.before.before.before.before.before.args in
-    record_at_body a.book.now a.at (omega arith) position_body 4 c.position_body.result (λ b. refl) c.before.in-4.keys4 c.position_body.ensures
+    let a = c.args in
+    record_at_body a.book.now a.at (omega arith) position_body 4 c.position_body.result (λ b. refl) c.in-4.is c.position_body.ensures
 
 returns_6 : tie.Need-returns-in-5
 unfolding by_kind
 returns_6 c =
-    let a = c.before.before.before.before.before.before.args in
-    record_at_body a.book.now a.at (omega arith) gap_body 5 c.gap_body.result (λ b. refl) c.before.in-5.keys5 c.gap_body.ensures
+    let a = c.args in
+    record_at_body a.book.now a.at (omega arith) gap_body 5 c.gap_body.result (λ b. refl) c.in-5.is c.gap_body.ensures
 
 returns_7 : tie.Need-returns-in-9
 unfolding by_kind
 returns_7 c =
-    let a = c.before.before.before.before.before.args in
-    record_at_kind a.book.now a.at (omega arith) 9 c.in-9.keys6
+    let a = c.args in
+    record_at_kind a.book.now a.at (omega arith) 9 c.in-9.is
 
 returns_8 : tie.Need-returns-in_default
 returns_8 c =
-    let a = c.before.before.before.before.before.args in
-    let r = c.in_default.rest in
+    let a = c.args in
+    let r = c.in_default.in_default-own.rest in
     let k = get_or a.book.now a.at 0 in
     by_kind-unknown k (drop (a.at + 1) a.book.now) a.at r.0.0.0.0.0.1 r.0.0.0.0.1 r.0.0.0.1 r.0.0.1 r.0.1 r.1
     ∙ record_at_kind a.book.now a.at (omega arith) k refl

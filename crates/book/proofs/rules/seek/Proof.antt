@@ -17,23 +17,23 @@ abbrev decreases_loop : tie.decreases-loop-i
 decreases_loop book rules number at i₀ i = rules - i
 
 -- the array has so many places, and each one's record is within the book
-places_long : (s : tie.Start invariant_loop decreases_loop) → length s.args.t2 ≡ 32
+places_long : (s : tie.Start invariant_loop decreases_loop) → length s.args.at ≡ 32
 places_long s = search rules
 
-enough : (s : tie.Start invariant_loop decreases_loop) → s.args.rules ≤ length s.args.t2
+enough : (s : tie.Start invariant_loop decreases_loop) → s.args.rules ≤ length s.args.at
 enough s = omega (arith, places_long s, s.requires.0)
 
-within : (c : tie.In-loop-i invariant_loop decreases_loop) → get_or c.before.before.before.args.t2 c.before.loop-i.i 0 + 27 ≤ length c.before.before.before.args.book.now
-within c = c.before.before.before.requires.1 c.before.loop-i.i (omega arith)
+within : (c : tie.In-loop-i invariant_loop decreases_loop) → get_or c.args.at c.loop-i.i 0 + 27 ≤ length c.args.book.now
+within c = c.requires.1 c.loop-i.i (omega arith)
 
 loop_holds : tie.Need-loop-i-init invariant_loop decreases_loop
 loop_holds c = (omega arith, refl)
 
 mul_place : tie.Need-offset_bounds-at-i invariant_loop decreases_loop
-mul_place c = omega (arith, c.before.before.before.requires.0)
+mul_place c = omega (arith, c.requires.0)
 
 array_read_place : tie.Need-bounds-at-i invariant_loop decreases_loop
-array_read_place c = omega (arith, c.before.before.before.requires.0)
+array_read_place c = omega (arith, c.requires.0)
 
 cast_place : tie.Need-overflow_cast-place invariant_loop decreases_loop
 cast_place c = omega (arith, within c)
@@ -49,9 +49,9 @@ add_t14 c = omega (arith, within c.before.before)
 
 returns : tie.Need-returns-then-n-number invariant_loop decreases_loop
 returns c =
-    let l = c.before.before.before.loop-i in
+    let l = c.loop-i in
     let s = c.before.before.before.before.before in
-    let u = c.before.uint_at-n in
+    let u = c.uint_at-n in
     sym (l.invariant.1 ∙ sought-here _ _ _ (enough s) _ l.i (omega arith) (sym u.ensures.0 ∙ c.if-n-number.true))
 
 add_i : tie.Need-overflow_add-i invariant_loop decreases_loop
@@ -62,14 +62,14 @@ loop_less c = omega arith
 
 loop_again : tie.Need-loop-i-preserved invariant_loop decreases_loop
 loop_again c =
-    let l = c.before.before.before.loop-i in
+    let l = c.loop-i in
     let s = c.before.before.before.before.before in
-    let u = c.before.uint_at-n in
+    let u = c.uint_at-n in
     (omega arith, l.invariant.1 ∙ sought-on _ _ _ (enough s) _ l.i (omega arith) (λ e. c.if-n-number.false (u.ensures.0 ∙ e)))
 
 returns_2 : tie.Need-returns invariant_loop decreases_loop
 returns_2 c =
-    let l = c.before.loop-i in
+    let l = c.loop-i in
     let s = c.before.before.before in
     let e : l.i ≡ s.args.rules = omega arith in
     sym (rw e at l.invariant.1 ∙ sought-over _ _ _ (enough s) _)

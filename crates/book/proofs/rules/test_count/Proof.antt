@@ -9,7 +9,7 @@ use lib.ListN.{length}
 use Rattle.book.specs.declared.record.Record.TheVariants.{Test}
 use Rattle.book.specs.declared.record.Test as t
 use Rattle.book.specs.Record.{record_at}
-use Rattle.book.proofs.TestsFrom.{TestsRead, no_test_read, test_within, read_none, read_more, read-over, read-full}
+use Rattle.book.proofs.TestsFrom.{TestsRead, tag_unless-test, no_test_read, test_within, read_none, read_more, read-over, read-full}
 use Rattle.book.proofs.rules.test_count.Statement.{statement}
 use Rattle.book.proofs.rules.test_count.Tie as tie
 
@@ -30,17 +30,17 @@ enum_known_r c = search rules
 
 returns : tie.Need-returns-in_default invariant_loop decreases_loop
 returns c =
-    let l = c.before.before.before.loop-n in
+    let l = c.loop-n in
     let read = l.invariant.1.1 in
-    sym (ap length (read-over _ _ _ _ _ read (no_test_read _ _ _ c.before.record_at-r.ensures c.in_default.keys2)) ∙ read.count)
+    sym (ap length (read-over _ _ _ _ _ read (no_test_read _ _ _ c.record_at-r.ensures (tag_unless-test _ c.in_default.not-Test))) ∙ read.count)
 
 test_size_requires : tie.Need-test_size-place-requires invariant_loop decreases_loop
 test_size_requires c κs = tt
 
 -- the record just read is a test
 here : (c : tie.In-Test invariant_loop decreases_loop)
-    → record_at c.before.before.before.before.before.before.before.args.book.now c.before.before.before.before.before.loop-n.place ≡ Test c.before.r-1.given.0.0
-here c = sym c.before.before.before.record_at-r.ensures ∙ c.before.r-1.given.1
+    → record_at c.args.book.now c.loop-n.place ≡ Test c.in-Test.t
+here c = sym c.record_at-r.ensures ∙ c.in-Test.is
 
 add-place : tie.Need-overflow_add-place invariant_loop decreases_loop
 add-place c = omega (arith, c.test_size-place.ensures, test_within _ _ _ (here c.before))
@@ -53,13 +53,13 @@ loop_less c = omega arith
 
 loop_again : tie.Need-loop-n-preserved invariant_loop decreases_loop
 loop_again c =
-    let l = c.before.before.before.before.before.before.loop-n in
+    let l = c.loop-n in
     let read = l.invariant.1.1 in
     (omega arith, (_, read_more _ _ _ _ _ read _ _ (omega arith) (here c.before) c.test_size-place.ensures))
 
 returns_2 : tie.Need-returns invariant_loop decreases_loop
 returns_2 c =
-    let l = c.before.loop-n in
+    let l = c.loop-n in
     let read = l.invariant.1.1 in
     sym (ap length (read-full _ _ _ _ _ read (omega arith)) ∙ read.count)
 

@@ -6,7 +6,7 @@ use native.Mathlib.Omega.{arith}
 use borrow.Author.Rules.{rules}
 use Rattle.book.specs.declared.record.Record.TheVariants.{Test}
 use Rattle.book.specs.Record.{record_at}
-use Rattle.book.proofs.TestsFrom.{TestsFilled, no_test_read, test_within, filled_none, filled_more, filled-over, filled-full}
+use Rattle.book.proofs.TestsFrom.{TestsFilled, tag_unless-test, no_test_read, test_within, filled_none, filled_more, filled-over, filled-full}
 use Rattle.book.proofs.rules.tests_at.Statement.{statement}
 use Rattle.book.proofs.rules.tests_at.Tie as tie
 
@@ -27,7 +27,7 @@ enum_known_r c = search rules
 
 returns : tie.Need-returns-in_default invariant_loop decreases_loop
 returns c =
-    filled-over _ _ _ _ _ c.before.before.before.loop-n.invariant.1 (no_test_read _ _ _ c.before.record_at-r.ensures c.in_default.keys2)
+    filled-over _ _ _ _ _ c.loop-n.invariant.1 (no_test_read _ _ _ c.record_at-r.ensures (tag_unless-test _ c.in_default.not-Test))
 
 mul_tests : tie.Need-offset_bounds-tests-n invariant_loop decreases_loop
 mul_tests c = omega arith
@@ -40,8 +40,8 @@ test_size_requires c κs = tt
 
 -- the record just read is a test
 here : (c : tie.In-Test invariant_loop decreases_loop)
-    → record_at c.before.before.before.before.before.before.before.args.book.now c.before.before.before.before.before.loop-n.place ≡ Test c.before.r-1.given.0.0
-here c = sym c.before.before.before.record_at-r.ensures ∙ c.before.r-1.given.1
+    → record_at c.args.book.now c.loop-n.place ≡ Test c.in-Test.t
+here c = sym c.record_at-r.ensures ∙ c.in-Test.is
 
 add-place : tie.Need-overflow_add-place invariant_loop decreases_loop
 add-place c = omega (arith, c.test_size-place.ensures, test_within _ _ _ (here c.before))
@@ -54,11 +54,11 @@ loop_less c = omega arith
 
 loop_again : tie.Need-loop-n-preserved invariant_loop decreases_loop
 loop_again c =
-    let l = c.before.before.before.before.before.before.loop-n in
+    let l = c.loop-n in
     (omega arith, filled_more _ _ _ _ _ l.invariant.1 _ _ (omega arith) (here c.before) c.test_size-place.ensures)
 
 returns_2 : tie.Need-returns invariant_loop decreases_loop
-returns_2 c = filled-full _ _ _ _ _ c.before.loop-n.invariant.1 (omega arith)
+returns_2 c = filled-full _ _ _ _ _ c.loop-n.invariant.1 (omega arith)
 
 pub tests_at_spec : {M : Type 1} → statement M
 tests_at_spec =

@@ -31,16 +31,16 @@ part-result-end c = search rules
 
 returns : tie.Need-returns-in_default
 returns c =
-    let w = c.before.before.before.wording_place-place in
-    sym (wording-none _ _ w.result _ _ w.ensures c.before.enum_told-1.given.1)
+    let w = c.wording_place-place in
+    sym (wording-none _ _ w.result _ _ w.ensures c.in_default.is)
 
 -- the wording stands there
-here : (c : tie.In-At) → (c.before.place-1.given.0.0 + 24 ≤ length c.before.before.before.before.before.args.book.now)
-    × (take 24 (drop c.before.place-1.given.0.0 c.before.before.before.before.before.args.book.now)
-    ≡ rule_wording (read_book c.before.before.before.before.before.args.book.now) c.before.before.before.before.before.args.number)
+here : (c : tie.In-At) → (c.in-At.from + 24 ≤ length c.args.book.now)
+    × (take 24 (drop c.in-At.from c.args.book.now)
+    ≡ rule_wording (read_book c.args.book.now) c.args.number)
 here c =
-    let w = c.before.before.before.wording_place-place in
-    wording-at _ _ w.result _ w.ensures c.before.place-1.given.1
+    let w = c.wording_place-place in
+    wording-at _ _ w.result _ w.ensures c.in-At.is
 
 add_to : tie.Need-overflow_add-to
 add_to c = omega (arith, (here c).0)
@@ -56,7 +56,7 @@ part-result_end_2 c = (here c).0
 
 returns_2 : tie.Need-returns
 returns_2 c =
-    let p = c.before.before.place-1.given.0.0 in
+    let p = c.in-At.from in
     let n : p + 24 - p ≡ 24 = omega arith in
     rw n (here c.before).1
 

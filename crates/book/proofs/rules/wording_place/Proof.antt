@@ -17,18 +17,18 @@ enum_known_answer_2 c = search rules
 
 seek_requires : tie.Need-seek-requires
 seek_requires c κs =
-    let f = c.before.before.before.before.before.find_places-found in
-    accepted-within _ f.result f.ensures _ _ c.before.before.before.answer-in-Accepted-1.given.1
+    let f = c.find_places-found in
+    accepted-within _ f.result f.ensures _ _ c.in-Accepted.is
 
 returns : tie.Need-returns-in-Refused
 returns c =
-    let f = c.before.before.before.find_places-found in
-    refused-place _ f.result f.ensures _ _ _ c.before.answer-1.given.1
+    let f = c.find_places-found in
+    refused-place _ f.result f.ensures _ _ _ c.in-Refused.is
 
 returns_2 : tie.Need-returns-in-Accepted
 returns_2 c =
-    let f = c.before.before.before.before.before.before.find_places-found in
-    c.seek.ensures ∙ accepted-place _ f.result f.ensures _ _ c.before.before.before.before.answer-in-Accepted-1.given.1 _
+    let f = c.find_places-found in
+    c.seek.ensures ∙ accepted-place _ f.result f.ensures _ _ c.in-Accepted.is _
 
 pub wording_place_spec : {M : Type 1} → statement M
 wording_place_spec =

@@ -16,11 +16,11 @@ enum_known_place c = search rules
 
 returns : tie.Need-returns-in-At
 unfolding refusal_in
-returns c = ap refusal_in (sym c.enum_told-1.given.1 ∙ c.before.before.wording_place-place.ensures)
+returns c = ap refusal_in (sym c.in-At.is ∙ c.wording_place-place.ensures)
 
 returns_2 : tie.Need-returns-in-Refused
 unfolding refusal_in
-returns_2 c = ap refusal_in (sym c.before.place-1.given.1 ∙ c.before.before.before.wording_place-place.ensures)
+returns_2 c = ap refusal_in (sym c.in-Refused.is ∙ c.wording_place-place.ensures)
 
 pub wording_refusal_spec : {M : Type 1} → statement M
 wording_refusal_spec =
