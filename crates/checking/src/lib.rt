@@ -1,5 +1,6 @@
 // Whether a room holds what its readings and stored book say: each part is worked out anew and compared.
 #![tactic(auto)]
+
 pub mod anew;
 pub mod compare;
 pub mod index;

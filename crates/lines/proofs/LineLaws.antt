@@ -33,7 +33,7 @@ pub length-entry-most : (r : Reading) → r.line < 2 ^ 32 → r.column < 2 ^ 32 
 length-entry-most r l c v = omega (arith, length-entry r, length_digits_32 r.line l, length_digits_32 r.column c, length_digits_32 r.value v)
 
 -- of the first n readings of an array: what its type says of each reading is that its numbers have 32 bits
-pub length-entries-most : (readings : List Reading) (us : List Val) → shadow (each Reading (row the_type).own readings us) → (n : ℕ) → length (entries (take n readings)) ≤ 33 * n
+pub length-entries-most : (readings : List Reading) (us : List Val) → shadow (each Reading (row the_type).own_val readings us) → (n : ℕ) → length (entries (take n readings)) ≤ 33 * n
 unfolding concat_map
 length-entries-most readings us is zero = omega arith
 length-entries-most [] us is (suc n) = omega arith

@@ -18,19 +18,19 @@ use Rattle.malletfrond.proofs.add.Tie as tie
 -- ---- places: a room that was not refused, the readings counted, the reading looked up
 
 abbrev start : tie.Else-is_broken → tie.Start
-start c = c.before.before.before.before
+start c = c.before.before.before
 
 intact : (c : tie.Else-is_broken) → broken (start c).args.room.now ≡ false
 intact c = sym c.before.is_broken.ensures ∙ c.if-is_broken.false
 
 abbrev read : tie.After-two_at-n → tie.Else-is_broken
-read c = c.before.before.before.before
+read c = c.before.before
 
 abbrev ranked : tie.After-rank_of-p → tie.After-two_at-n
-ranked c = c.before.before.before.before
+ranked c = c.before.before.before
 
 abbrev placed : tie.After-stands_at → tie.After-rank_of-p
-placed c = c.before.before.before.before
+placed c = c.before.before.before
 
 abbrev reading : tie.Start → Reading
 reading s = record { line = s.args.line; column = s.args.column; value = s.args.value }
@@ -49,10 +49,10 @@ looks c =
 -- ---- places: the slots counted, the addition worked out
 
 abbrev new : tie.After-two_at → tie.Else-stands_at
-new c = c.before.before
+new c = c.before
 
 abbrev free : tie.After-add_at-after → tie.Else-two_at-n
-free c = c.before.before.before.before
+free c = c.before.before.before
 
 abbrev worked : tie.After-struct_known-1 → tie.After-add_at-after
 worked c = c.before.before.before
@@ -69,10 +69,10 @@ returns : tie.Need-returns-then-is_broken
 returns c = steps-broken _ _ (sym c.before.is_broken.ensures ∙ c.if-is_broken.true)
 
 two_at_requires : tie.Need-two_at-limit-requires
-two_at_requires c κs = in_room _ (intact c.before) (lit≤ tt)
+two_at_requires c κs = in_room _ (intact c) (lit≤ tt)
 
 two_at_requires_2 : tie.Need-two_at-n-requires
-two_at_requires_2 c κs = in_room _ (intact c.before.before.before) (lit≤ tt)
+two_at_requires_2 c κs = in_room _ (intact c.before) (lit≤ tt)
 
 sub_rank_of : tie.Need-slice_bounds-rank_of-count
 sub_rank_of c = search rules
@@ -81,7 +81,7 @@ part_rank_of_start : tie.Need-slice_bounds-rank_of-start
 part_rank_of_start c = search rules
 
 part_rank_of_end : tie.Need-slice_bounds-rank_of-end
-part_rank_of_end c = in_room _ (intact (read c.before)) (lit≤ tt)
+part_rank_of_end c = in_room _ (intact (read c)) (lit≤ tt)
 
 sub_rank_of_2 : tie.Need-slice_bounds-rank_of-count-2
 sub_rank_of_2 c = search rules
@@ -90,10 +90,10 @@ part_rank_of_start_2 : tie.Need-slice_bounds-rank_of-start-2
 part_rank_of_start_2 c = search rules
 
 part_rank_of_end_2 : tie.Need-slice_bounds-rank_of-end-2
-part_rank_of_end_2 c = in_room _ (intact (read c.before.before)) (lit≤ tt)
+part_rank_of_end_2 c = in_room _ (intact (read c.before)) (lit≤ tt)
 
 rank_of_requires : tie.Need-rank_of-p-requires
-rank_of_requires c κs = let a = c.before.before.before in parts-lent _ (intact (read a)) a.two_at-n.ensures.0
+rank_of_requires c κs = let a = c.before.before in parts-lent _ (intact (read a)) a.two_at-n.ensures.0
 
 sub_stands_at : tie.Need-slice_bounds-stands_at-count
 sub_stands_at c = search rules
@@ -102,7 +102,7 @@ part-stands-at-start : tie.Need-slice_bounds-stands_at-start
 part-stands-at-start c = search rules
 
 part-stands-at-end : tie.Need-slice_bounds-stands_at-end
-part-stands-at-end c = in_room _ (intact (read (ranked c.before))) (lit≤ tt)
+part-stands-at-end c = in_room _ (intact (read (ranked c))) (lit≤ tt)
 
 sub_stands_at_2 : tie.Need-slice_bounds-stands_at-count-2
 sub_stands_at_2 c = search rules
@@ -111,10 +111,10 @@ part-stands-at_start_2 : tie.Need-slice_bounds-stands_at-start-2
 part-stands-at_start_2 c = search rules
 
 part-stands-at_end_2 : tie.Need-slice_bounds-stands_at-end-2
-part-stands-at_end_2 c = in_room _ (intact (read (ranked c.before.before))) (lit≤ tt)
+part-stands-at_end_2 c = in_room _ (intact (read (ranked c.before))) (lit≤ tt)
 
 stands_at_requires : tie.Need-stands_at-requires
-stands_at_requires c κs = let a = ranked c.before.before.before in parts-lent _ (intact (read a)) a.two_at-n.ensures.0
+stands_at_requires c κs = let a = ranked c.before.before in parts-lent _ (intact (read a)) a.two_at-n.ensures.0
 
 same_length_2 : tie.Need-shape_of-room-then-stands_at
 same_length_2 c = search rules
@@ -123,7 +123,7 @@ returns_2 : tie.Need-returns-then-stands_at
 returns_2 c = let k = looks c.before in adds_present _ _ k.p_is k.whole (k.found_is ∙ c.if-stands_at.true)
 
 two_at_requires_3 : tie.Need-two_at-requires
-two_at_requires_3 c κs = in_room _ (looks c.before.before).whole (lit≤ tt)
+two_at_requires_3 c κs = in_room _ (looks c.before).whole (lit≤ tt)
 
 same_length_3 : tie.Need-shape_of-room-then-two_at-n
 same_length_3 c = search rules
@@ -134,11 +134,11 @@ returns_3 c =
     adds_no_slot (looks e.before) e.if-stands_at.false c.before.two_at.ensures.0 c.if-two_at-n.true
 
 complete_of_requires : tie.Need-complete_of-before-requires
-complete_of_requires c κs = (looks (new c.before.before).before).whole
+complete_of_requires c κs = (looks (new c.before).before).whole
 
 add_at_requires : tie.Need-add_at-after-requires
 add_at_requires c κs =
-    let f = c.before.before.before in
+    let f = c.before.before in
     let e = new f.before in
     let k = looks e.before in
     (k.whole, (omega (arith, k), slot_free k e.if-stands_at.false f.before.two_at.ensures.0 f.if-two_at-n.false))
@@ -152,7 +152,7 @@ returns_4 c =
     let f = free w in
     let e = new f.before in
     let a = ranked (placed e.before) in
-    adds_too_many (looks e.before) e.if-stands_at.false f.before.two_at.ensures.0 f.if-two_at-n.false (fits (start (read a))) a.before.before.two_at-limit.ensures.0 w.add_at-after.ensures
+    adds_too_many (looks e.before) e.if-stands_at.false f.before.two_at.ensures.0 f.if-two_at-n.false (fits (start (read a))) a.two_at-limit.ensures.0 w.add_at-after.ensures
     c.if-limit-after.true
 
 add_t23 : tie.Need-overflow_add-result
@@ -170,8 +170,8 @@ returns_5 c =
     let f = free w in
     let e = new f.before in
     let a = ranked (placed e.before) in
-    adds_new (looks e.before) e.if-stands_at.false f.before.two_at.ensures.0 f.if-two_at-n.false (fits (start (read a))) a.before.before.two_at-limit.ensures.0 w.add_at-after.ensures
-    c.before.if-limit-after.false w.before.before.complete_of-before.ensures c.more_than.ensures
+    adds_new (looks e.before) e.if-stands_at.false f.before.two_at.ensures.0 f.if-two_at-n.false (fits (start (read a))) a.two_at-limit.ensures.0 w.add_at-after.ensures
+    c.before.if-limit-after.false w.complete_of-before.ensures c.more_than.ensures
 
 pub add_spec : {M : Type 1} → statement M
 add_spec =

@@ -29,7 +29,7 @@ abbrev whole : tie.Else-not-index_agrees → tie.Else-is_broken
 whole c = c.before.before
 
 indexed : (c : tie.Else-not-index_agrees) → Indexed (lent (whole c))
-indexed c = c.before.index-Agrees.ensures.0 (not-false _ c.if-not-index_agrees.false-raw)
+indexed c = c.before.index_agrees.ensures.0 (not-false _ c.if-not-index_agrees.false-raw)
 
 abbrev tabled : tie.Else-not-each_once → tie.Else-not-index_agrees
 tabled c = c.before.before.before
@@ -64,7 +64,7 @@ index_agrees_requires : tie.Need-index_agrees-requires
 index_agrees_requires c κs = intact c
 
 returns_2 : tie.Need-returns-then-not-index_agrees
-returns_2 c = checks_lacking _ (not-true _ c.if-not-index_agrees.true-raw) c.before.index-Agrees.ensures (sound_indexed _)
+returns_2 c = checks_lacking _ (not-true _ c.if-not-index_agrees.true-raw) c.before.index_agrees.ensures (sound_indexed _)
 
 sub_each_once : tie.Need-slice_bounds-each_once-count
 sub_each_once c = search rules

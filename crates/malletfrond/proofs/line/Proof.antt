@@ -51,7 +51,7 @@ abbrev lent : tie.After-put_line-length → tie.Start
 lent c = start (whole (sought (there (within c.before).before)))
 
 put : (c : tie.After-put_line-length)
-    → Put (lent c).args.room.now (lent c).args.k (lent c).args.buffer.now c.put_line-length.result c.put_line-length.new.0
+    → Put (lent c).args.room.now (lent c).args.k (lent c).args.buffer.now c.put_line-length.result c.put_line-length.new.buffer
 put c =
     let e = within c.before in
     let f = there e.before in

@@ -18,16 +18,16 @@ fit : (c : tie.Else-not-limits_fit) → limits_fit (start c).args.e (start c).ar
 fit c = sym c.before.limits_fit.ensures ∙ not-false _ c.if-not-limits_fit.false-raw
 
 -- a book that was accepted
-abbrev found : tie.In-Accepted-2 → tie.After-find_places-found
-found c = c.before.before
+abbrev found : tie.In-Accepted → tie.After-find_places-found
+found c = c.before
 
-read : (c : tie.In-Accepted-2)
-    → Found (start (found c).before.before).args.book.now (found c).find_places-found.result c.answer-in-Accepted-1.given.0.0 c.answer-in-Accepted-1.given.0.1.0
-read c = found-accepted _ _ (found c).find_places-found.ensures _ _ c.answer-in-Accepted-1.given.1
+read : (c : tie.In-Accepted)
+    → Found (start (found c).before.before).args.book.now (found c).find_places-found.result c.in-Accepted.rules c.in-Accepted.conditions
+read c = found-accepted _ _ (found c).find_places-found.ensures _ _ c.in-Accepted.is
 
 -- where the room is lent
-abbrev accepted : tie.After-write_opening-arg-1 → tie.In-Accepted-2
-accepted c = c.before.before.before.before.before.before
+abbrev accepted : tie.After-write_opening-arg-1 → tie.In-Accepted
+accepted c = c.before.before.before.before.before
 
 limits_fit_requires : tie.Need-limits_fit-requires
 limits_fit_requires c κs = search rules
@@ -81,8 +81,8 @@ write_opening_requires c κs =
 
 returns_3 : tie.Need-returns-in-Refused
 returns_3 c =
-    let b = c.before.before.before in
-    opens_not_read _ _ _ _ (fit b.before.before) b.before.if-room-t.false _ _ (found-refused _ _ b.find_places-found.ensures _ _ c.before.answer-1.given.1)
+    let b = c.before in
+    opens_not_read _ _ _ _ (fit b.before.before) b.before.if-room-t.false _ _ (found-refused _ _ b.find_places-found.ensures _ _ c.in-Refused.is)
 
 same_length : tie.Need-shape_of-room
 same_length c = search rules
@@ -91,7 +91,7 @@ returns_4 : tie.Need-returns-in-Accepted
 returns_4 c =
     let w = c.before.before in
     let r = accepted w.before.before.before.before in
-    opens-found _ _ _ _ (read r) _ _ _ _ (fit (found r).before.before) (found r).before.if-room-t.false w.write_opening.auto.0 w.write_opening.ensures
+    opens-found _ _ _ _ (read r) _ _ _ _ (fit (found r).before.before) (found r).before.if-room-t.false w.write_opening.auto.room w.write_opening.ensures
 
 pub open_spec : {M : Type 1} → statement M
 open_spec =

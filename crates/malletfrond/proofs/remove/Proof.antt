@@ -18,19 +18,19 @@ use Rattle.malletfrond.proofs.remove.Tie as tie
 -- ---- places: a room that was not refused, the readings counted, the reading looked up
 
 abbrev start : tie.Else-is_broken → tie.Start
-start c = c.before.before.before.before
+start c = c.before.before.before
 
 intact : (c : tie.Else-is_broken) → broken (start c).args.room.now ≡ false
 intact c = sym c.before.is_broken.ensures ∙ c.if-is_broken.false
 
 abbrev read : tie.After-two_at-n → tie.Else-is_broken
-read c = c.before.before
+read c = c.before
 
 abbrev ranked : tie.After-rank_of-p → tie.After-two_at-n
-ranked c = c.before.before.before.before
+ranked c = c.before.before.before
 
 abbrev placed : tie.After-stands_at → tie.After-rank_of-p
-placed c = c.before.before.before.before
+placed c = c.before.before.before
 
 abbrev reading : tie.Start → Reading
 reading s = record { line = s.args.line; column = s.args.column; value = s.args.value }
@@ -48,7 +48,7 @@ found : (c : tie.Else-not-stands_at) → c.before.stands_at.result ≡ true
 found c = not-false _ c.if-not-stands_at.false-raw
 
 abbrev asked : tie.After-remove_at-arg-1 → tie.Else-not-stands_at
-asked c = c.before.before.before
+asked c = c.before.before
 
 -- ---- the needs
 
@@ -62,7 +62,7 @@ returns : tie.Need-returns-then-is_broken
 returns c = steps-broken _ _ (sym c.before.is_broken.ensures ∙ c.if-is_broken.true)
 
 two_at_requires : tie.Need-two_at-n-requires
-two_at_requires c κs = in_room _ (intact c.before) (lit≤ tt)
+two_at_requires c κs = in_room _ (intact c) (lit≤ tt)
 
 sub_rank_of : tie.Need-slice_bounds-rank_of-count
 sub_rank_of c = search rules
@@ -71,7 +71,7 @@ part_rank_of_start : tie.Need-slice_bounds-rank_of-start
 part_rank_of_start c = search rules
 
 part_rank_of_end : tie.Need-slice_bounds-rank_of-end
-part_rank_of_end c = in_room _ (intact (read c.before)) (lit≤ tt)
+part_rank_of_end c = in_room _ (intact (read c)) (lit≤ tt)
 
 sub_rank_of_2 : tie.Need-slice_bounds-rank_of-count-2
 sub_rank_of_2 c = search rules
@@ -80,10 +80,10 @@ part_rank_of_start_2 : tie.Need-slice_bounds-rank_of-start-2
 part_rank_of_start_2 c = search rules
 
 part_rank_of_end_2 : tie.Need-slice_bounds-rank_of-end-2
-part_rank_of_end_2 c = in_room _ (intact (read c.before.before)) (lit≤ tt)
+part_rank_of_end_2 c = in_room _ (intact (read c.before)) (lit≤ tt)
 
 rank_of_requires : tie.Need-rank_of-p-requires
-rank_of_requires c κs = let a = c.before.before.before in parts-lent _ (intact (read a)) a.two_at-n.ensures.0
+rank_of_requires c κs = let a = c.before.before in parts-lent _ (intact (read a)) a.two_at-n.ensures.0
 
 sub_stands_at : tie.Need-slice_bounds-stands_at-count
 sub_stands_at c = search rules
@@ -92,7 +92,7 @@ part-stands-at-start : tie.Need-slice_bounds-stands_at-start
 part-stands-at-start c = search rules
 
 part-stands-at-end : tie.Need-slice_bounds-stands_at-end
-part-stands-at-end c = in_room _ (intact (read (ranked c.before))) (lit≤ tt)
+part-stands-at-end c = in_room _ (intact (read (ranked c))) (lit≤ tt)
 
 sub_stands_at_2 : tie.Need-slice_bounds-stands_at-count-2
 sub_stands_at_2 c = search rules
@@ -101,10 +101,10 @@ part-stands-at_start_2 : tie.Need-slice_bounds-stands_at-start-2
 part-stands-at_start_2 c = search rules
 
 part-stands-at_end_2 : tie.Need-slice_bounds-stands_at-end-2
-part-stands-at_end_2 c = in_room _ (intact (read (ranked c.before.before))) (lit≤ tt)
+part-stands-at_end_2 c = in_room _ (intact (read (ranked c.before))) (lit≤ tt)
 
 stands_at_requires : tie.Need-stands_at-requires
-stands_at_requires c κs = let a = ranked c.before.before.before in parts-lent _ (intact (read a)) a.two_at-n.ensures.0
+stands_at_requires c κs = let a = ranked c.before.before in parts-lent _ (intact (read a)) a.two_at-n.ensures.0
 
 same_length_2 : tie.Need-shape_of-room-then-not-stands_at
 same_length_2 c = search rules
@@ -113,7 +113,7 @@ returns_2 : tie.Need-returns-then-not-stands_at
 returns_2 c = let k = looks c.before in removes_absent _ _ k.p_is k.whole (k.found_is ∙ not-true _ c.if-not-stands_at.true-raw)
 
 complete_of_requires : tie.Need-complete_of-before-requires
-complete_of_requires c κs = (looks c.before.before).whole
+complete_of_requires c κs = (looks c.before).whole
 
 remove_at_requires : tie.Need-remove_at-after-requires
 remove_at_requires c κs =
@@ -138,7 +138,7 @@ returns_3 : tie.Need-returns
 returns_3 c =
     let w = c.before.before.before in
     let e = asked w.before in
-    removes_found (looks e.before) (found e) w.remove_at-after.ensures w.before.before.complete_of-before.ensures c.more_than.ensures
+    removes_found (looks e.before) (found e) w.remove_at-after.ensures w.complete_of-before.ensures c.more_than.ensures
 
 pub remove_spec : {M : Type 1} → statement M
 remove_spec =

@@ -28,10 +28,10 @@ found d =
     d.find_places-found.ensures ∙ ap (λ (l : List ℕ). placed_of (read_book l)) (book-read room (bounds room (start d).requires) _ end)
 
 -- the book is accepted: the index agrees where the places found stand in the room
-known : (a : tie.In-Accepted-2) →
-    Indexed (start a.before.before).args.room.now
-    ↔ Placing (start a.before.before).args.room.now a.before.before.find_places-found.result.places a.answer-1.given.0.0 a.answer-1.given.0.1.0
-known a = accepted_index _ _ (found a.before.before) _ _ a.answer-1.given.1
+known : (a : tie.In-Accepted) →
+    Indexed (start a.before).args.room.now
+    ↔ Placing (start a.before).args.room.now a.before.find_places-found.result.places a.in-Accepted.rules a.in-Accepted.conditions
+known a = accepted_index _ _ (found a.before) _ _ a.in-Accepted.is
 
 long : (d : tie.After-find_places-found) → length d.find_places-found.result.places.conditions ≡ 192
 long d = search rules
@@ -44,27 +44,27 @@ abbrev placed : tie.Else-not-same_bytes → tie.Else-not-same_twos
 placed e = e.before.before.before.before
 
 -- the numbers of rules and conditions were compared
-abbrev answered : tie.Else-conditions-two_at → tie.In-Accepted-2
-answered e = e.before.before.before.before.before
+abbrev answered : tie.Else-conditions-two_at → tie.In-Accepted
+answered e = e.before.before.before.before
 
 -- as many as the room says
 many : (e : tie.Else-conditions-two_at) →
-    let room = (start (answered e).before.before).args.room.now in
-    ((answered e).answer-1.given.0.0 ≡ uint 2 room 10) × ((answered e).answer-1.given.0.1.0 ≡ uint 2 room 12)
+    let room = (start (answered e).before).args.room.now in
+    ((answered e).in-Accepted.rules ≡ uint 2 room 10) × ((answered e).in-Accepted.conditions ≡ uint 2 room 12)
 many e = (e.before.before.if-rules-two_at.false ∙ e.before.before.before.two_at.ensures.0, e.if-conditions-two_at.false ∙ e.before.two_at-in-Accepted.ensures.0)
 
-bounded : (e : tie.Else-conditions-two_at) → Bounds (start (answered e).before.before).args.room.now
-bounded e = bounds _ (start (answered e).before.before).requires
+bounded : (e : tie.Else-conditions-two_at) → Bounds (start (answered e).before).args.room.now
+bounded e = bounds _ (start (answered e).before).requires
 
 asked : (e : tie.Else-conditions-two_at) →
     let a = answered e in
-    Asked (start a.before.before).args.room.now a.before.before.find_places-found.result.places a.answer-1.given.0.0 a.answer-1.given.0.1.0
+    Asked (start a.before).args.room.now a.before.find_places-found.result.places a.in-Accepted.rules a.in-Accepted.conditions
 asked e =
     let a = answered e in
-    index_asked _ _ (found a.before.before) _ _ a.answer-1.given.1 (bounded e) (many e).0 (many e).1
+    index_asked _ _ (found a.before) _ _ a.in-Accepted.is (bounded e) (many e).0 (many e).1
 
 two_at_requires : tie.Need-two_at-end-requires
-two_at_requires c κs = let b = bounds _ c.before.requires in omega arith
+two_at_requires c κs = let b = bounds _ c.requires in omega arith
 
 add-end : tie.Need-overflow_add-end
 add-end c = search rules
@@ -76,7 +76,7 @@ part_find_places_start : tie.Need-slice_bounds-find_places-start
 part_find_places_start c = search rules
 
 part_find_places_end : tie.Need-slice_bounds-find_places-end
-part_find_places_end c = let b = bounds _ c.before.before.requires in omega arith
+part_find_places_end c = let b = bounds _ c.requires in omega arith
 
 find_places_requires : tie.Need-find_places-found-requires
 find_places_requires c κs = search rules
@@ -88,16 +88,16 @@ enum_known_answer : tie.Need-enum_known-answer
 enum_known_answer c = search rules
 
 two_at_requires_2 : tie.Need-two_at-requires
-two_at_requires_2 c κs = let b = bounds _ c.before.before.before.before.before.before.before.requires in omega arith
+two_at_requires_2 c κs = let b = bounds _ c.requires in omega arith
 
 returns : tie.Need-returns-then-rules-two_at
-returns c = no λ i. c.if-rules-two_at.true (((known c.before.before.before).0 i).rules ∙ sym c.before.two_at.ensures.0)
+returns c = no λ i. c.if-rules-two_at.true (((known c.before.before).0 i).rules ∙ sym c.before.two_at.ensures.0)
 
 two_at_requires_3 : tie.Need-two_at-requires-in-Accepted
-two_at_requires_3 c κs = let b = bounds _ c.before.before.before.before.before.before.before.before.before.requires in omega arith
+two_at_requires_3 c κs = let b = bounds _ c.requires in omega arith
 
 returns_2 : tie.Need-returns-then-conditions-two_at
-returns_2 c = no λ i. c.if-conditions-two_at.true (((known c.before.before.before.before.before).0 i).conditions ∙ sym c.before.two_at-in-Accepted.ensures.0)
+returns_2 c = no λ i. c.if-conditions-two_at.true (((known c.before.before.before.before).0 i).conditions ∙ sym c.before.two_at-in-Accepted.ensures.0)
 
 sub_same_twos : tie.Need-slice_bounds-same_twos-count
 sub_same_twos c = search rules
@@ -149,13 +149,13 @@ part-same-twos_end_2 : tie.Need-slice_bounds-same_twos-end-in-Accepted-2
 part-same-twos_end_2 c = let b = bounded (counted (placed c)) in omega arith
 
 slice_aggregate_same_twos_2 : tie.Need-slice_bounds-same_twos-end-in-Accepted-3
-slice_aggregate_same_twos_2 c = sym (long (answered (counted (placed c.before.before))).before.before)
+slice_aggregate_same_twos_2 c = sym (long (answered (counted (placed c.before.before))).before)
 
 same_twos_requires_2 : tie.Need-same_twos-requires-in-Accepted
 same_twos_requires_2 c κs = (asked (counted (placed c.before.before))).condition_places_lem
 
 returns_5 : tie.Need-returns-in-Refused
-returns_5 c = no (refused_index _ _ (found c.before.before) _ _ c.enum_told-1.given.1)
+returns_5 c = no (refused_index _ _ (found c.before) _ _ c.in-Refused.is)
 
 returns_6 : tie.Need-returns-else-not-same_bytes
 returns_6 c =

@@ -42,25 +42,25 @@ abbrev none : Reading
 none = record { line = 0; column = 0; value = 0 }
 
 -- the array has a place for each reading
-array_long : (c : tie.Start invariant_loop decreases_loop) → length c.args.t2 ≡ 6
+array_long : (c : tie.Start invariant_loop decreases_loop) → length c.args.readings ≡ 6
 array_long c = search rules
 
 -- where a reading is left, its entry ends within the buffer
 place : (c : tie.In-loop-i invariant_loop decreases_loop) →
     let l = c.before.loop-i in
     let s = c.before.before.before in
-    l.at + length (entry (get_or s.args.t2 l.i none)) ≤ length s.args.free.now
+    l.at + length (entry (get_or s.args.readings l.i none)) ≤ length s.args.free.now
 place c =
     let l = c.before.loop-i in
     let s = c.before.before.before in
     let six = array_long s in
-    omega (arith, s.requires, l.invariant.1.end, length-entries-more s.args.t2 l.i s.args.n none (omega arith) (omega arith))
+    omega (arith, s.requires, l.invariant.1.end, length-entries-more s.args.readings l.i s.args.n none (omega arith) (omega arith))
 
 put_entry_requires : tie.Need-put_entry-at-requires invariant_loop decreases_loop
 put_entry_requires c κs =
     let l = c.before.before.before.loop-i in
     let a = c.before.before.before.before.before.args in
-    rest_long l.free l.at (length (entry (get_or a.t2 l.i none))) (omega (arith, place c.before.before, l.invariant.1.long))
+    rest_long l.free l.at (length (entry (get_or a.readings l.i none))) (omega (arith, place c.before.before, l.invariant.1.long))
 
 add_at : tie.Need-overflow_add-at invariant_loop decreases_loop
 add_at c = omega (arith, place c.before.before.before.before.before, c.before.before.put_entry-at.ensures.0)
@@ -78,8 +78,8 @@ loop_again c =
     let s = g.before.before.before in
     let p = c.before.before.put_entry-at in
     let six = array_long s in
-    let more = front_lent l.invariant.1 (entry (get_or s.args.t2 l.i none)) (omega (arith, place g, p.ensures.0)) p.ensures in
-    (omega arith, rw (← entries-more s.args.t2 l.i none (omega arith)) at more)
+    let more = front_lent l.invariant.1 (entry (get_or s.args.readings l.i none)) (omega (arith, place g, p.ensures.0)) p.ensures in
+    (omega arith, rw (← entries-more s.args.readings l.i none (omega arith)) at more)
 
 same_length : tie.Need-shape_of-free invariant_loop decreases_loop
 same_length c = search rules

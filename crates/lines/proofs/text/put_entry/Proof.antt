@@ -30,19 +30,19 @@ abbrev with_space : tie.Start → List ℕ
 with_space c = set c.args.free.now 0 32
 
 abbrev with_line : tie.After-put_digits-at → List ℕ
-with_line c = back (with_space (start c)) 1 c.put_digits-at.new.0
+with_line c = back (with_space (start c)) 1 c.put_digits-at.new.rest
 
 abbrev line-end : tie.After-put_digits-at → ℕ
 line-end c = 1 + c.put_digits-at.result
 
 abbrev with_column : tie.After-put_digits-at-2 → List ℕ
-with_column c = let p = first c in back (set (with_line p) (line-end p) 47) (line-end p + 1) c.put_digits-at-2.new.0
+with_column c = let p = first c in back (set (with_line p) (line-end p) 47) (line-end p + 1) c.put_digits-at-2.new.rest
 
 abbrev column_end : tie.After-put_digits-at-2 → ℕ
 column_end c = line-end (first c) + 1 + c.put_digits-at-2.result
 
 abbrev with_value : tie.After-put_digits-at-3 → List ℕ
-with_value c = let p = second c in back (set (with_column p) (column_end p) 47) (column_end p + 1) c.put_digits-at-3.new.0
+with_value c = let p = second c in back (set (with_column p) (column_end p) 47) (column_end p + 1) c.put_digits-at-3.new.rest
 
 -- what stands at its front each time, and up to where
 abbrev line_text_lem : tie.Start → List ℕ

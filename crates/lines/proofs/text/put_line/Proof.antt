@@ -1,6 +1,6 @@
 -- `lines::text::put_line` meets its contract: a line has at most 230 bytes, so the array has place for the number, the entries and the ending, one behind the other; its
 -- first `total` bytes are the line, and they are copied where the buffer has place for them. Assumes nothing.
-use Prim.Native.Nat.{ℕ, ◌+◌, ◌-◌, ◌≤◌}
+use Prim.Native.Nat.{ℕ, ◌+◌, ◌-◌, ◌*◌, ◌≤◌}
 use mathlib.Core.Path.{◌≡◌, refl, sym, ap, ◌∙◌}
 use mathlib.Core.List.{List, ◌++◌, append_assoc}
 use native.Mathlib.Omega.{arith}
@@ -35,7 +35,7 @@ parts c =
     let w = s.args.wording.now in
     let t = c.trimmed_length-shown in
     let d = length_digits_16 s.args.number (omega (arith, s.requires.0)) in
-    let l = length-entries-most s.args.readings s.good.1.1.0.0 s.good.1.1.0.1.1 s.args.n in
+    let l : length (entries (take s.args.n s.args.readings)) ≤ 33 * s.args.n = length-entries-most s.args.readings s.well_formed.1.1.0.0 s.well_formed.1.1.0.1.1 s.args.n in
     let shown : length (trimmed w) ≡ t.result = sym (ap length t.ensures.0) ∙ length-take-le t.result w t.ensures.1 in
     let e : length (ending w) ≡ t.result + 3 = omega (arith, length-ending w) in
     (e, omega (arith, s.requires))
@@ -50,7 +50,7 @@ trimmed-first c = c.before.before
 
 digits-put : (c : tie.After-put_digits-at) →
     let a = (begun (trimmed-first c)).args in
-    Front zeros (digits a.number) c.put_digits-at.new.0 c.put_digits-at.result
+    Front zeros (digits a.number) c.put_digits-at.new.rest c.put_digits-at.result
 digits-put c =
     let a = (begun (trimmed-first c)).args in
     front_spliced zeros (digits a.number) (omega (arith, parts (trimmed-first c), c.put_digits-at.ensures.0)) c.put_digits-at.ensures.0 c.put_digits-at.ensures.1
@@ -62,7 +62,7 @@ numbered c = c.before.before.before
 abbrev entered : tie.After-put_entries-at → List ℕ
 entered c =
     let d = (numbered c).put_digits-at in
-    take d.result d.last.0 ++ (c.put_entries-at.new.0 ++ drop (230 - d.result) (drop d.result d.last.0))
+    take d.result d.new.rest ++ (c.put_entries-at.new.free ++ drop (230 - d.result) (drop d.result d.new.rest))
 
 abbrev end : tie.After-put_entries-at → ℕ
 end c = (numbered c).put_digits-at.result + c.put_entries-at.result
@@ -87,7 +87,7 @@ written_from c = begun (trimmed-first (numbered (behind c)))
 abbrev written : tie.After-put_ending → List ℕ
 written c =
     let p = behind c in
-    take (end p) (entered p) ++ (c.put_ending.new.0 ++ drop (230 - end p) (drop (end p) (entered p)))
+    take (end p) (entered p) ++ (c.put_ending.new.free ++ drop (230 - end p) (drop (end p) (entered p)))
 
 abbrev total : tie.After-put_ending → ℕ
 total c = end (behind c) + (trimmed-first (numbered (behind c))).trimmed_length-shown.result + 3
@@ -126,8 +126,8 @@ put_entries_requires : tie.Need-put_entries-at-requires
 put_entries_requires c κs =
     let d = c.before.before in
     let at = d.put_digits-at.result in
-    let h : at ≤ 230 = (digits-put d).ranges in
-    let long = length_stretch d.put_digits-at.new.0 at (230 - at) (omega (arith, (digits-put d).long)) in
+    let h : at ≤ 230 = (digits-put d).fits in
+    let long = length_stretch d.put_digits-at.new.rest at (230 - at) (omega (arith, (digits-put d).long)) in
     ((begun (trimmed-first d)).requires.1.0, omega (arith, (parts (trimmed-first d)).1, d.put_digits-at.ensures.0))
 
 add_at : tie.Need-overflow_add-at
@@ -146,7 +146,7 @@ put_ending_requires : tie.Need-put_ending-requires
 put_ending_requires c κs =
     let p = c.before.before in
     let t = (trimmed-first (numbered p)).trimmed_length-shown in
-    let h : end p ≤ 230 = (entries-put p).ranges in
+    let h : end p ≤ 230 = (entries-put p).fits in
     let long = length_stretch (entered p) (end p) (230 - end p) (omega (arith, (entries-put p).long)) in
     (t.ensures.0, (t.ensures.1, omega (arith, place p)))
 
