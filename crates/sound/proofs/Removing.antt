@@ -125,8 +125,8 @@ module _ (room : List ℕ) (s : Sound room) (w : Reading) (p : ℕ) (low : p < h
   count_left = omega (arith, sound-count room s, book_count-without w (held room).readings s.rules, whole.tokens)
 
   module _ {tokens complete : ℕ} {room' : List ℕ} (at : RemovedAt room p tokens complete room') where
-    slots_left : slots_next at.aside ≡ others slot os
-    slots_left =
+    slots_after : slots_next at.aside ≡ others slot os
+    slots_after =
         ap₂ take at.readings_are at.order_is ∙ take-moved_out order p (head_number room 2) low within
         ∙ ap (λ (l : List ℕ). l ++ after) (sym (take-take p (head_number room 2) order (omega arith))) ∙ sym slots_left
 
@@ -141,13 +141,13 @@ module _ (room : List ℕ) (s : Sound room) (w : Reading) (p : ℕ) (low : p < h
       order_long = ap length at.order_is ∙ length-moved_out order p (head_number room 2) low within ∙ order_long room s;
       once = rw at.order_is (once-moved_out order p (head_number room 2) low within s.arranged.once);
       few = omega (arith, at.readings_are, whole.readings);
-      reads = ap (map (read_in room)) slots_left ∙ readings_left;
+      reads = ap (map (read_in room)) slots_after ∙ readings_left;
       ascending = without_sorted is_same w s.ascending;
-      bits = rw slots_left bits_left;
+      bits = rw slots_after bits_left;
       fits = count_left;
       ns = nodes_part (parts room);
       ls = lasts_part (parts room);
       es = replicate 32 0;
       ms = twos 32 (completes_part (parts room));
-      told = rw (slots_left, at.tokens_are) told;
+      told = rw (slots_after, at.tokens_are) told;
     }
