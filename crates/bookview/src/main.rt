@@ -1,6 +1,7 @@
 // Shows rule books: each as the reader takes it apart, or its refusal with number and place.
 // Standard input is a row of books, each behind twelve bytes: its length (4) and a rule number whose wording is asked for (8), big-endian.
 #![tactic(auto)]
+
 mod line;
 
 use book::reader::{BookAnswer, find_places};

@@ -1,5 +1,6 @@
 // The desk's program: a rule book and a file of steps in, answers and complaints out. What matters is in the library.
 #![tactic(auto)]
+
 mod input;
 mod out;
 mod steps;

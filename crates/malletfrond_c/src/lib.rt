@@ -1,6 +1,7 @@
 // The public calls for programs in C and Rust: numbers and slices only. Each answers a refusal's number, 0 for accepted, and writes its results through numbers lent
 // to it; a result that is not there leaves the number lent for it as it was.
 #![tactic(auto)]
+
 ghost use Rattle.matching.specs.Step.{add, remove};
 ghost use Rattle.malletfrond.specs.Promise.{Checks};
 ghost use Rattle.malletfrond_c.specs.Exported.{OpensOut, StepsOut, CountsOut, LinesOut, WordsOut};
