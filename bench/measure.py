@@ -95,7 +95,7 @@ def find_archive(wanted):
         return os.path.abspath(wanted)
     if shutil.which("rt"):
         say("bench: the archive is made, for which every crate is proved; some minutes")
-        subprocess.run(["rt", "staticlib", "malletfrond_c"], cwd=ROOT, check=False, stdout=sys.stderr)
+        subprocess.run(["tools/build", "malletfrond_c"], cwd=ROOT, check=False, stdout=sys.stderr)
     return ARCHIVE
 
 
@@ -290,7 +290,7 @@ def build(asked):
     archive = find_archive(asked.archive) if OURS in matchers else None
     if archive and not os.path.exists(archive):
         if matchers == [OURS] or asked.write:
-            sys.exit("bench: no archive %s (rt staticlib malletfrond_c makes it)" % archive)
+            sys.exit("bench: no archive %s (tools/build malletfrond_c makes it)" % archive)
         say("bench: no archive %s: the others are run without it" % archive)
         matchers = [m for m in matchers if m is not OURS]
     for matcher in matchers:

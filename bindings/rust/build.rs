@@ -1,4 +1,4 @@
-//! Where the static library lies: the folder in MALLETFROND_LIB, else the one that `rt staticlib malletfrond_c` writes to.
+//! Where the static library lies: the folder in MALLETFROND_LIB, else the one that `tools/build malletfrond_c` writes to.
 
 use std::path::PathBuf;
 
