@@ -1,87 +1,88 @@
-// A line that is being put together: an array of WIDTH bytes, of which the first `used` are written.
+// A line of output, put together from texts and numbers. Where the writer says which bytes it holds, a call that succeeds adds what it says, and nothing else.
+ghost use Rattle.std.specs.Prelude.{◌≡◌, ◌∷◌, [], OnOk, unsigned_abs};
+ghost use Rattle.std.specs.Fmt.{decimal};
+ghost use Rattle.std.specs.Io.KnownBytes.{Appends};
+ghost use Rattle.bookview.specs.Printed.{spaced, spaced_signed, three, line_of_two, line_of_three};
 
-// The longest line, a gap test with two numbers of twenty characters, has 58 bytes; a byte past the array's end would be dropped.
-pub const WIDTH: usize = 64;
+use std::io;
+use std::io::Write;
 
-// One byte more; how many are written then.
-fn put_byte(line: &mut [u8; WIDTH], used: usize, byte: u8) -> usize {
-    if WIDTH <= used {
-        return used;
-    }
-    line[used] = byte;
-    used + 1
+// Each byte of `text`.
+pub fn put<W: Write>(out: &mut W, text: &[u8]) -> io::Result<()>
+    ensures { OnOk result (Appends (W.contents out.old) (W.contents out.new) text.now) }
+{
+    out.write_all(text)
 }
 
-// Each byte of `text`; how many are written then.
-pub fn put(line: &mut [u8; WIDTH], used: usize, text: &[u8]) -> usize {
-    let mut at = used;
-    let mut i: usize = 0;
-    while i < text.len() {
-        at = put_byte(line, at, text[i]);
-        i += 1;
-    }
-    at
+// n in decimal.
+fn put_digits<W: Write>(out: &mut W, n: u64) -> io::Result<()>
+    ensures { OnOk result (Appends (W.contents out.old) (W.contents out.new) (decimal n)) }
+{
+    write!(out, "{n}")
 }
 
-// n in decimal; how many bytes are written then.
-fn put_digits(line: &mut [u8; WIDTH], used: usize, n: u64) -> usize {
-    let mut digits = [0u8; 20];
-    let count = io::decimal(n, &mut digits);
-    put(line, used, &digits[..count])
-}
-
-// A space and n in decimal; how many bytes are written then.
-pub fn put_number(line: &mut [u8; WIDTH], used: usize, n: u64) -> usize {
-    let used = put(line, used, b" ");
-    put_digits(line, used, n)
+// A space and n in decimal.
+pub fn put_number<W: Write>(out: &mut W, n: u64) -> io::Result<()>
+    ensures { OnOk result (Appends (W.contents out.old) (W.contents out.new) (spaced n)) }
+{
+    put(out, b" ")?;
+    put_digits(out, n)
 }
 
 // How far z is from zero. The lowest i64 has no opposite among them, so below zero the opposite of the number above z is taken, and one added.
-fn magnitude(z: i64) -> u64 {
+fn magnitude(z: i64) -> u64
+    ensures { result ≡ unsigned_abs z }
+{
     if z < 0 {
         return ((-1 - z) as u64) + 1;
     }
     z as u64
 }
 
-// A space and z in decimal, with a minus sign below zero; how many bytes are written then.
-pub fn put_signed(line: &mut [u8; WIDTH], used: usize, z: i64) -> usize {
+// Three numbers, each behind a space.
+#[tactic(auto, unfolding(crate::specs::Printed::three))]
+pub fn put_three<W: Write>(out: &mut W, a: u64, b: u64, c: u64) -> io::Result<()>
+    ensures { OnOk result (Appends (W.contents out.old) (W.contents out.new) (three a b c)) }
+{
+    put_number(out, a)?;
+    put_number(out, b)?;
+    put_number(out, c)
+}
+
+// A space and z in decimal, with a minus sign below zero.
+pub fn put_signed<W: Write>(out: &mut W, z: i64) -> io::Result<()>
+    ensures { OnOk result (Appends (W.contents out.old) (W.contents out.new) (spaced_signed z)) }
+{
     if z < 0 {
-        let used = put(line, used, b" -");
-        return put_digits(line, used, magnitude(z));
+        put(out, b" -")?;
+        return put_digits(out, magnitude(z));
     }
-    put_number(line, used, magnitude(z))
+    put_number(out, magnitude(z))
 }
 
-// Writes out the first `used` bytes.
-fn write_front(text: &[u8], used: usize) {
-    if text.len() < used {
-        return;
-    }
-    io::write_all(libc::STDOUT_FILENO, &text[0..used]);
-}
-
-// Ends the line and writes it out.
-pub fn say(line: &mut [u8; WIDTH], used: usize) {
-    let used = put(line, used, b"\n");
-    write_front(line, used);
+// Ends the line, and writes it out: who gives one book after the other sees each line before the next is taken in.
+pub fn say<W: Write>(out: &mut W) -> io::Result<()>
+    ensures { OnOk result (Appends (W.contents out.old) (W.contents out.new) (10 ∷ [])) }
+{
+    put(out, b"\n")?;
+    out.flush()
 }
 
 // A whole line: a word and two numbers.
-pub fn say_two(word: &[u8], a: u64, b: u64) {
-    let mut line = [0u8; WIDTH];
-    let used = put(&mut line, 0, word);
-    let used = put_number(&mut line, used, a);
-    let used = put_number(&mut line, used, b);
-    say(&mut line, used);
+pub fn say_two<W: Write>(out: &mut W, word: &[u8], a: u64, b: u64) -> io::Result<()>
+    ensures { OnOk result (Appends (W.contents out.old) (W.contents out.new) (line_of_two word.now a b)) }
+{
+    put(out, word)?;
+    put_number(out, a)?;
+    put_number(out, b)?;
+    say(out)
 }
 
 // A whole line: a word and three numbers.
-pub fn say_three(word: &[u8], a: u64, b: u64, c: u64) {
-    let mut line = [0u8; WIDTH];
-    let used = put(&mut line, 0, word);
-    let used = put_number(&mut line, used, a);
-    let used = put_number(&mut line, used, b);
-    let used = put_number(&mut line, used, c);
-    say(&mut line, used);
+pub fn say_three<W: Write>(out: &mut W, word: &[u8], a: u64, b: u64, c: u64) -> io::Result<()>
+    ensures { OnOk result (Appends (W.contents out.old) (W.contents out.new) (line_of_three word.now a b c)) }
+{
+    put(out, word)?;
+    put_three(out, a, b, c)?;
+    say(out)
 }

@@ -1,17 +1,33 @@
 // Input: a file's bytes, taken into an array of which the first `have` are read.
 ghost use Rattle.std.specs.Prelude.{◌≤◌, length};
 
+use std::io::Read;
+
+// One read into `space`; how many bytes it gave. A read that fails counts as the file's end.
+fn read_some<R: Read>(file: &mut R, space: &mut [u8]) -> usize
+    ensures { result ≤ length space.old }
+{
+    file.read(space).unwrap_or(0)
+}
+
 // Fills up behind the first `have` bytes, as far as the file goes; how many there are then.
-pub fn read_rest(fd: i32, space: &mut [u8], have: usize) -> usize
+pub fn read_rest<R: Read>(file: &mut R, space: &mut [u8], have: usize) -> usize
     requires { have ≤ length space.old }
     ensures { result ≤ length space.old }
 {
-    let more = io::read_full(fd, &mut space[have..]);
-    have + more
+    let mut have = have;
+    while have < space.len() {
+        let more = read_some(file, &mut space[have..]);
+        if more == 0 {
+            break;
+        }
+        have += more;
+    }
+    have
 }
 
 // Moves the bytes from `at` up to `have` to the front, and fills up behind them; how many there are then.
-pub fn refill(fd: i32, space: &mut [u8], at: usize, have: usize) -> usize
+pub fn refill<R: Read>(file: &mut R, space: &mut [u8], at: usize, have: usize) -> usize
     requires at_le_have { at ≤ have }
     requires have_in_bounds { have ≤ length space.old }
     ensures { result ≤ length space.old }
@@ -22,5 +38,5 @@ pub fn refill(fd: i32, space: &mut [u8], at: usize, have: usize) -> usize
         space[n] = space[at + n];
         n += 1;
     }
-    read_rest(fd, space, left)
+    read_rest(file, space, left)
 }

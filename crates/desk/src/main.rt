@@ -5,11 +5,15 @@ mod input;
 mod out;
 mod steps;
 
-ghost use Rattle.std.specs.Prelude.{◌≤◌, length};
+ghost use Rattle.std.specs.Prelude.{◌≤◌, length, IfOk, OnOk};
+ghost use Rattle.std.specs.Io.KnownBytes.{Appends};
+ghost use Rattle.desk.specs.Printed.{placed_refusal_line};
 
 use input::read_rest;
 use malletfrond::OpenAnswer;
 use out::{SPACE, flush, put, put_number};
+use std::io::{BufWriter, Read, Write};
+use std::{fs, io};
 use steps::{CHUNK, run};
 
 // One byte more than the longest book, so that a longer file is refused as a book that is too long.
@@ -22,50 +26,75 @@ const READINGS: u64 = 256;
 
 const TOKENS: u64 = 2048;
 
+// A file that is open, and how many of its bytes are read.
+#[derive(Drop)]
+struct Begun<F> {
+    file: F,
+    have: usize,
+}
+
 // A refusal with its place is all that is printed.
-fn refuse(number: u8, place: usize) {
-    let mut out = [0u8; SPACE];
-    let used = put(&mut out, 0, b"!");
-    let used = put_number(&mut out, used, number as u64);
-    let used = put_number(&mut out, used, place as u64);
-    let used = put(&mut out, used, b"\n");
-    flush(&out, used);
+fn refuse<W: Write>(out: &mut W, number: u8, place: usize) -> io::Result<()>
+    ensures { OnOk result (Appends (W.contents out.old) (W.contents out.new) (placed_refusal_line number place)) }
+{
+    put(out, b"!")?;
+    put_number(out, number as u64)?;
+    put_number(out, place as u64)?;
+    put(out, b"\n")?;
+    flush(out)
 }
 
 // Opens a room for the book and goes through the steps, the first `have` bytes of which are read.
-fn serve(book: &[u8], fd: i32, chunk: &mut [u8], have: usize)
+fn serve<R: Read, W: Write>(
+    book: &[u8],
+    file: &mut R,
+    chunk: &mut [u8],
+    have: usize,
+    out: &mut W,
+) -> io::Result<()>
     requires { have ≤ length chunk.old }
 {
     let mut room = [0u8; ROOM];
     let answer = malletfrond::open(&mut room, book, READINGS, TOKENS);
     match answer {
-        OpenAnswer::Refused { number, place } => refuse(number, place),
+        OpenAnswer::Refused { number, place } => refuse(out, number, place),
         OpenAnswer::Opened {
             readings: _,
             tokens: _,
             complete: _,
-        } => run(&mut room, fd, chunk, have),
+        } => run(&mut room, file, chunk, have, out),
     }
 }
 
+// Reads a first part of a file into `space`, if it could be opened.
+fn begin<F: Read + Drop>(opened: io::Result<F>, space: &mut [u8]) -> io::Result<Begun<F>>
+    ensures { IfOk result (λ begun. begun.have ≤ length space.old) }
+{
+    let mut file = opened?;
+    let have = file.read(space)?;
+    Ok(Begun { file, have })
+}
+
 // Both files are open and a first part of each is read before either is judged: a name that cannot be read counts as one that cannot be opened.
-fn main() {
-    let rules = os::open_read(b"rules.bk");
-    let steps = os::open_read(b"steps.bk");
+fn main(rt: HostRuntime) -> io::Result<()> {
+    let mut out = BufWriter::with_capacity(rt.alloc(), SPACE, io::writer(&rt))?;
     let mut space = [0u8; MOST];
     let mut chunk = [0u8; CHUNK];
-    let got = libc::read(rules, &mut space);
-    let got_steps = libc::read(steps, &mut chunk);
-    if got < 0 {
-        refuse(18, 0);
-        return;
+    let rules = fs::open(&rt, "rules.bk");
+    let steps = fs::open(&rt, "steps.bk");
+    let rules = begin(rules, &mut space);
+    let steps = begin(steps, &mut chunk);
+    match (rules, steps) {
+        (Ok(mut rules), Ok(mut steps)) => {
+            let length = read_rest(&mut rules.file, &mut space, rules.have);
+            serve(
+                &space[0..length],
+                &mut steps.file,
+                &mut chunk,
+                steps.have,
+                &mut out,
+            )
+        }
+        _ => refuse(&mut out, 18, 0),
     }
-    if got_steps < 0 {
-        refuse(18, 0);
-        return;
-    }
-    let first = io::count(got, &space);
-    let have = io::count(got_steps, &chunk);
-    let length = read_rest(rules, &mut space, first);
-    serve(&space[0..length], steps, &mut chunk, have);
 }

@@ -1,9 +1,13 @@
 // The steps: taken from a file as long as it likes, part after part.
-ghost use Rattle.std.specs.Prelude.{◌≤◌, ◌<◌, length, ◌≡◌};
+ghost use Rattle.std.specs.Prelude.{◌≤◌, ◌<◌, length, ◌≡◌, IfOk, OnOk};
+ghost use Rattle.std.specs.Io.KnownBytes.{Appends};
+ghost use Rattle.desk.specs.Printed.{answer_line, refusal_line};
 
 use crate::input::refill;
-use crate::out::{SPACE, flush, put, put_number};
+use crate::out::{flush, put, put_number};
 use malletfrond::{CountsAnswer, LineAnswer, StepAnswer};
+use std::io;
+use std::io::{Read, Write};
 
 // How many bytes of the steps are held at a time.
 pub const CHUNK: usize = 4096;
@@ -20,31 +24,32 @@ const LIST: u8 = 3;
 // No line is longer.
 const LINE: usize = 230;
 
-// After a step: how many bytes it had, none if it was the end, and how many bytes of output wait.
+// After a step: how many bytes it had, none if it was the end.
 #[derive(Drop)]
 struct Turn {
     size: usize,
-    used: usize,
 }
 
-// The answer to an addition or a removal; how many bytes of output wait then.
-fn show(out: &mut [u8; SPACE], used: usize, sign: &[u8], answer: StepAnswer) -> usize {
+// The answer to an addition or a removal.
+fn show<W: Write>(out: &mut W, sign: &[u8], answer: StepAnswer) -> io::Result<()>
+    ensures { OnOk result (Appends (W.contents out.old) (W.contents out.new) (answer_line sign.now answer)) }
+{
     match answer {
         StepAnswer::Accepted {
             readings,
             tokens,
             changed,
         } => {
-            let used = put(out, used, sign);
-            let used = put_number(out, used, readings as u64);
-            let used = put_number(out, used, tokens as u64);
-            let used = put_number(out, used, changed as u64);
-            put(out, used, b"\n")
+            put(out, sign)?;
+            put_number(out, readings as u64)?;
+            put_number(out, tokens as u64)?;
+            put_number(out, changed as u64)?;
+            put(out, b"\n")
         }
         StepAnswer::Refused { number } => {
-            let used = put(out, used, b"!");
-            let used = put_number(out, used, number as u64);
-            put(out, used, b"\n")
+            put(out, b"!")?;
+            put_number(out, number as u64)?;
+            put(out, b"\n")
         }
     }
 }
@@ -62,85 +67,79 @@ fn complaints(room: &[u8]) -> usize {
     }
 }
 
-// Complaint k as a line; how many bytes of output wait then.
-fn show_line(room: &[u8], out: &mut [u8; SPACE], used: usize, k: usize) -> usize {
+// Complaint k as a line.
+fn show_line<W: Write>(room: &[u8], out: &mut W, k: usize) -> io::Result<()> {
     let mut line = [0u8; LINE];
     let answer = malletfrond::line(room, k as u64, &mut line);
     match answer {
         LineAnswer::Written { length } => {
             if LINE < length {
-                return used;
+                return Ok(());
             }
-            put(out, used, &line[0..length])
+            put(out, &line[0..length])
         }
-        LineAnswer::Refused { number: _ } => used,
+        LineAnswer::Refused { number: _ } => Ok(()),
     }
 }
 
-// All complaints, behind how many they are; how many bytes of output wait then.
-fn list(room: &[u8], out: &mut [u8; SPACE], used: usize) -> usize {
+// All complaints, behind how many they are.
+fn list<W: Write>(room: &[u8], out: &mut W) -> io::Result<()> {
     let count = complaints(room);
-    let mut at = put(out, used, b"=");
-    at = put_number(out, at, count as u64);
-    at = put(out, at, b"\n");
-    let mut k: usize = 0;
-    while k < count {
-        at = show_line(room, out, at, k);
-        k += 1;
+    put(out, b"=")?;
+    put_number(out, count as u64)?;
+    put(out, b"\n")?;
+    for k in 0..count {
+        show_line(room, out, k)?;
     }
-    at
+    Ok(())
 }
 
-// The addition or removal at the front of `step`; how many bytes of output wait then.
-fn change(room: &mut [u8], step: &[u8], out: &mut [u8; SPACE], used: usize) -> usize
+// The addition or removal at the front of `step`.
+fn change<W: Write>(room: &mut [u8], step: &[u8], out: &mut W) -> io::Result<()>
     requires { 13 ≤ length step.now }
 {
     let line = numbers::four_at(step, 1);
     let column = numbers::four_at(step, 5);
     let value = numbers::four_at(step, 9);
     if step[0] == ADD {
-        return show(out, used, b"+", malletfrond::add(room, line, column, value));
+        return show(out, b"+", malletfrond::add(room, line, column, value));
     }
-    show(
-        out,
-        used,
-        b"-",
-        malletfrond::remove(room, line, column, value),
-    )
+    show(out, b"-", malletfrond::remove(room, line, column, value))
 }
 
 // What cannot be taken as a step ends the run with its refusal.
-fn end(out: &mut [u8; SPACE], used: usize, number: u8) -> Turn
-    ensures { result.size ≡ 0 }
+fn end<W: Write>(out: &mut W, number: u8) -> io::Result<Turn>
+    ensures size { IfOk result (λ turn. turn.size ≡ 0) }
+    ensures printed { OnOk result (Appends (W.contents out.old) (W.contents out.new) (refusal_line number)) }
 {
-    let used = put(out, used, b"!");
-    let used = put_number(out, used, number as u64);
-    let used = put(out, used, b"\n");
-    Turn { size: 0, used }
+    put(out, b"!")?;
+    put_number(out, number as u64)?;
+    put(out, b"\n")?;
+    Ok(Turn { size: 0 })
 }
 
 // The step at the front of what is left.
-fn take(room: &mut [u8], left: &[u8], out: &mut [u8; SPACE], used: usize) -> Turn
-    ensures { result.size ≤ length left.now }
+fn take<W: Write>(room: &mut [u8], left: &[u8], out: &mut W) -> io::Result<Turn>
+    ensures { IfOk result (λ turn. turn.size ≤ length left.now) }
 {
     if left.len() == 0 {
-        return Turn { size: 0, used };
+        return Ok(Turn { size: 0 });
     }
     let kind = left[0];
     if kind == LIST {
-        let used = list(room, out, used);
-        return Turn { size: 1, used };
+        list(room, out)?;
+        return Ok(Turn { size: 1 });
     }
     if kind != ADD {
         if kind != REMOVE {
-            return end(out, used, 3);
+            return end(out, 3);
         }
     }
     if left.len() < STEP {
-        return end(out, used, 2);
+        return end(out, 2);
     }
-    let used = change(room, left, out, used);
-    Turn { size: STEP, used }
+    change(room, left, out)?;
+    Ok(Turn { size: STEP })
 }
 
 // How many turns are left after one in which a step of `size` bytes was taken: none after the end.
@@ -155,23 +154,26 @@ fn turns_after(turns: u64, size: usize) -> u64
 }
 
 // Goes through the steps, the first `have` bytes of which are read. Nothing says that a file ends, and a loop has to: so it counts its turns.
-pub fn run(room: &mut [u8], fd: i32, chunk: &mut [u8], have: usize)
+pub fn run<R: Read, W: Write>(
+    room: &mut [u8],
+    file: &mut R,
+    chunk: &mut [u8],
+    have: usize,
+    out: &mut W,
+) -> io::Result<()>
     requires { have ≤ length chunk.old }
 {
-    let mut out = [0u8; SPACE];
-    let mut used: usize = 0;
     let mut at: usize = 0;
     let mut have = have;
     let mut turns = u64::MAX;
     while 0 < turns {
         if have - at < STEP {
-            have = refill(fd, chunk, at, have);
+            have = refill(file, chunk, at, have);
             at = 0;
         }
-        let turn = take(room, &chunk[at..have], &mut out, used);
-        used = turn.used;
+        let turn = take(room, &chunk[at..have], out)?;
         at += turn.size;
         turns = turns_after(turns, turn.size);
     }
-    flush(&out, used);
+    flush(out)
 }
