@@ -35,7 +35,7 @@ pub gap_body-is : (b : List ℕ) (at : ℕ) → 19 ≤ length b → (low high : 
 unfolding gap_body
 gap_body-is b at h low high el eh = rw (el, eh) (whole_is _ _ _ _ h)
 
--- ---- recordAt: the record by its kind, its body the part of the book after it
+-- ---- record_at: the record by its kind, its body the part of the book after it
 
 pub record_at-past : (book : List ℕ) (at : ℕ) → length book ≤ at → Refused 2 at ≡ record_at book at
 unfolding record_at
