@@ -4,12 +4,12 @@
  *
  * A ROOM is memory that holds a rule book, two limits, the readings present and what is matched. It is opened once and then lent whole, from its first byte, to
  * every call. It needs no alignment and may lie anywhere; it may be copied byte for byte. It needs MALLETFROND_ROOM(t) bytes; more may be lent, and what lies
- * behind those is never touched. A slice is a pointer and a number of bytes; the pointer of an empty one is not read.
+ * behind those is never touched. A slice is a pointer and a number of bytes (of rows: of numbers); the pointer of an empty one is not read.
  *
  * Two things that are lent to one call must not overlap: not the room and a buffer, not two of the numbers that results are written through.
  *
  * A call answers 0 for accepted, else the number of its refusal. A refusal changes no lent byte, and leaves the numbers lent for results as they were, except
- * that an opening or a wording that is refused writes the refusal's place.
+ * that an opening, a wording and the two calls about rows write the refusal's place where they are refused.
  *
  * Refusals, in the order in which each call tries them:
  *   malletfrond_open     8 a limit out of range; 9 the room is too short; 1 to 7 the book is not accepted (place: offset of the record at fault, 0 for 1)
@@ -19,6 +19,8 @@
  *   malletfrond_line    10 the room is broken; 16 no such complaint; 15 the buffer is shorter than the line
  *   malletfrond_wording  1 to 7 the book is not accepted; 17 no rule of that number
  *   malletfrond_check   none
+ *   malletfrond_write_book   1, 3 to 7 as the book would be refused, at the place where the record would have stood; 19 the buffer is shorter than the book
+ *   malletfrond_read_rows    1 to 7 the book is not accepted; 19 the rows or the wordings are too few
  *
  * "Broken" is a rule over the room's first bytes (docs/ROOM.md). Memory that this library has opened and that nothing else has changed is never broken. Other memory
  * may be lent too: the calls are safe on any bytes, but what they then answer about matches means nothing.
@@ -65,6 +67,21 @@ uint64_t malletfrond_wording(const uint8_t *book, size_t book_length, uint64_t n
 
 /* Whether the room holds exactly the memories and tokens that its readings and stored book define; false for a broken room. */
 bool malletfrond_check(const uint8_t *room, size_t room_length);
+
+/* ROWS are a book's values: six numbers a record, the kind and then its body's numbers in the book's order, gaps as the whole numbers that they are. The wordings stand
+ * beside them, 24 bytes for each rule row, in order. The end record is no value: a book of no rows is its one byte. rows_length counts numbers; what is left over behind
+ * the last six is no record. */
+#define MALLETFROND_ROW 6
+
+/* Writes the book of the rows and wordings at the front of the buffer. What a kind does not use is not looked at. A kind that no value has, 9 among them, is 3; a number
+ * that its field cannot hold, and a wording that the wordings are too short for, is 6, in its turn. Accepted: *length is the book's length, at most 8,192; bytes behind
+ * it are as they were, and *place is. Refused: *place is the refusal's place. */
+uint64_t malletfrond_write_book(const int64_t *rows, size_t rows_length, const uint8_t *wordings, size_t wordings_length, uint8_t *buffer, size_t buffer_length, uint64_t *length, uint64_t *place);
+
+/* Reads a book into rows and wordings; what a kind does not use is written as 0. Accepted: *records are how many rows there are, *rules how many of them are rules; what lies
+ * behind 6 times *records numbers and 24 times *rules bytes is as it was, and *place is. Written again, they give the book, byte for byte. Refused: *place is the refusal's
+ * place. */
+uint64_t malletfrond_read_rows(const uint8_t *book, size_t book_length, int64_t *rows, size_t rows_length, uint8_t *wordings, size_t wordings_length, uint64_t *records, uint64_t *rules, uint64_t *place);
 
 #ifdef __cplusplus
 }

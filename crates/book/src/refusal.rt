@@ -16,6 +16,8 @@ pub const BAD_BODY: u8 = 6;
 pub const TOO_MANY: u8 = 7;
 // No rule of that number in the book.
 pub const NO_SUCH_RULE: u8 = 17;
+// What is written has no place in what is lent for it.
+pub const OUTPUT_TOO_SHORT: u8 = 19;
 
 // The longest book, and how many rules it may have, conditions a rule, tests a condition.
 pub const MOST_BYTES: usize = 8192;

@@ -49,7 +49,7 @@ same-rules rules others e = cc
 pub record Asked (room : List ℕ) (p : Places) (n c : ℕ) : Type 0 where
   pub rule_places_are : (n * 2 ≤ length (part room 8592 64)) × ((n ≤ length p.rules) × (n ≤ 192))
   pub rule_conditions_are : (n ≤ length (part room 8656 32)) × (n ≤ length p.counts)
-  pub condition_places_lem : (c * 2 ≤ length (part room 8208 384)) × ((c ≤ length p.conditions) × (c ≤ 192))
+  pub condition_places_are : (c * 2 ≤ length (part room 8208 384)) × ((c ≤ length p.conditions) × (c ≤ 192))
 
 module _ (room : List ℕ) where
   -- the places found are those in the room, and as many as it says
@@ -58,7 +58,7 @@ module _ (room : List ℕ) where
     pub conditions : c ≡ uint 2 room 12
     pub rule_places_are : twos n (part room 8592 64) ≡ take n p.rules
     pub rule_conditions_are : take n (part room 8656 32) ≡ take n p.counts
-    pub condition_places_lem : twos c (part room 8208 384) ≡ take c p.conditions
+    pub condition_places_are : twos c (part room 8208 384) ≡ take c p.conditions
 
   module _ (rules : List Rule) (reads : read_book (book_in room) ≡ accepted rules) (n c : ℕ) (number : n ≡ length rules) (total : c ≡ condition_count rules)
       (p : Places) (placed : p ≡ places_of rules) where
@@ -83,14 +83,14 @@ module _ (room : List ℕ) where
           reads = reads;
           rule_places_are = ap (λ (m : ℕ). twos m (part room 8592 64)) five ∙ t.rule_places_are ∙ rule_front;
           rule_conditions_are = ap (λ (m : ℕ). take m (part room 8656 32)) five ∙ t.rule_conditions_are ∙ count_front;
-          condition_places_lem = ap (λ (m : ℕ). twos m (part room 8208 384)) six ∙ t.condition_places_lem ∙ condition_front;
+          condition_places_are = ap (λ (m : ℕ). twos m (part room 8208 384)) six ∙ t.condition_places_are ∙ condition_front;
         }
 
     indexed_placing : Indexed room → Placing p n c
     indexed_placing i =
         let same : i.rules ≡ rules = same-rules i.rules rules (sym i.reads ∙ reads) in
         let places : twos (head_number room 5) (part room 8592 64) ≡ rule_places 0 rules = i.rule_places_are ∙ ap (rule_places 0) same in
-        let firsts : twos (head_number room 6) (part room 8208 384) ≡ condition_places 0 rules = i.condition_places_lem ∙ ap (condition_places 0) same in
+        let firsts : twos (head_number room 6) (part room 8208 384) ≡ condition_places 0 rules = i.condition_places_are ∙ ap (condition_places 0) same in
         let five : n ≡ head_number room 5 = number ∙ sym (length-rule_places 0 rules) ∙ sym (ap length places) ∙ length-twos (head_number room 5) (part room 8592 64) in
         let six : c ≡ head_number room 6 = total ∙ sym (length-condition_places 0 rules) ∙ sym (ap length firsts) ∙ length-twos (head_number room 6) (part room 8208 384) in
         record {
@@ -98,7 +98,7 @@ module _ (room : List ℕ) where
           conditions = six ∙ head_number-at room 6 (omega arith);
           rule_places_are = ap (λ (m : ℕ). twos m (part room 8592 64)) five ∙ places ∙ sym rule_front;
           rule_conditions_are = ap (λ (m : ℕ). take m (part room 8656 32)) five ∙ i.rule_conditions_are ∙ ap counts same ∙ sym count_front;
-          condition_places_lem = ap (λ (m : ℕ). twos m (part room 8208 384)) six ∙ firsts ∙ sym condition_front;
+          condition_places_are = ap (λ (m : ℕ). twos m (part room 8208 384)) six ∙ firsts ∙ sym condition_front;
         }
 
   module _ (p : Placed) (found : p ≡ placed_of (read_book (book_in room))) where
@@ -132,5 +132,5 @@ module _ (room : List ℕ) where
         record {
           rule_places_are = (omega (arith, long 8592 64 (omega arith), b.rules), (places, omega (arith, b.rules)));
           rule_conditions_are = (omega (arith, long 8656 32 (omega arith), b.rules), numbers);
-          condition_places_lem = (omega (arith, long 8208 384 (omega arith), b.conditions), (firsts, omega (arith, b.conditions)));
+          condition_places_are = (omega (arith, long 8208 384 (omega arith), b.conditions), (firsts, omega (arith, b.conditions)));
         }

@@ -37,7 +37,7 @@ module _ (room : List ℕ) where
     pub reads : read_book book_in ≡ accepted rules
     pub rule_places_are : twos (head_number room 5) (rule_places_part (parts room)) ≡ rule_places 0 rules
     pub rule_conditions_are : counts_in ≡ map levels rules
-    pub condition_places_lem : twos (head_number room 6) (condition_places_part (parts room)) ≡ condition_places 0 rules
+    pub condition_places_are : twos (head_number room 6) (condition_places_part (parts room)) ≡ condition_places 0 rules
 
   -- the readings ascend
   abbrev pub Rises : Type 0

@@ -49,10 +49,10 @@ module _ (room : List ℕ) where
 
   module _ (i : Indexed room) where
     indexed_tests : Entries [] (tests_in room) 0 (conditions_of i.rules)
-    indexed_tests = placed_tests room i.rules i.reads i.condition_places_lem
+    indexed_tests = placed_tests room i.rules i.reads i.condition_places_are
 
     indexed_conditions : head_number room 6 ≡ condition_count i.rules
-    indexed_conditions = places-counted (head_number room 6) (condition_places_part (parts room)) i.rules i.condition_places_lem
+    indexed_conditions = places-counted (head_number room 6) (condition_places_part (parts room)) i.rules i.condition_places_are
 
     indexed_flags : Bits (slots_of room) (read_in room) flag_in 0 i.rules
     indexed_flags =
@@ -70,7 +70,7 @@ module _ (room : List ℕ) where
           reads = s.reads;
           rule_places_are = ap (λ (h : Held). h.rule_places) s.holds;
           rule_conditions_are = sound-counts room s;
-          condition_places_lem = ap (λ (h : Held). h.condition_places) s.holds;
+          condition_places_are = ap (λ (h : Held). h.condition_places) s.holds;
         }
 
     pub sound-rises : Rises room
@@ -123,7 +123,7 @@ module _ (room : List ℕ) where
           refl
           i.rule_places_are
           i.rule_conditions_are
-          i.condition_places_lem
+          i.condition_places_are
           (b.ends_are ∙ ap (ends_built os (read_in room) (pass_in room) 0 0) i.rule_conditions_are ∙ ends_built_of os (read_in room) (pass_in room) 0 0 i.rules checked_agrees)
           (b.completes_are ∙ ap (completes_built os (read_in room) (pass_in room) 0 0) i.rule_conditions_are
           ∙ completes_built_of os (read_in room) (pass_in room) 0 0 i.rules (read_kept (book_in room) i.rules i.reads).some checked_agrees)

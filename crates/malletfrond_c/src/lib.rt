@@ -7,6 +7,8 @@ ghost use Rattle.malletfrond.specs.Promise.{Checks};
 ghost use Rattle.malletfrond_c.specs.Exported.{OpensOut, StepsOut, CountsOut, LinesOut, WordsOut};
 ghost use Rattle.malletfrond_c.specs.Told.{Told};
 
+mod writing;
+
 use book::rules::WordingPlace;
 use malletfrond::{CountsAnswer, LineAnswer, OpenAnswer, StepAnswer};
 

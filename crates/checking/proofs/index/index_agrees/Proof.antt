@@ -152,7 +152,7 @@ slice_aggregate_same_twos_2 : tie.Need-slice_bounds-same_twos-end-in-Accepted-3
 slice_aggregate_same_twos_2 c = sym (long (answered (counted (placed c.before.before))).before)
 
 same_twos_requires_2 : tie.Need-same_twos-requires-in-Accepted
-same_twos_requires_2 c κs = (asked (counted (placed c.before.before))).condition_places_lem
+same_twos_requires_2 c κs = (asked (counted (placed c.before.before))).condition_places_are
 
 returns_5 : tie.Need-returns-in-Refused
 returns_5 c = no (refused_index _ _ (found c.before) _ _ c.in-Refused.is)
@@ -168,9 +168,9 @@ returns_6 c =
         conditions = m.1;
         rule_places_are = e.before.same_twos.ensures.0 (not-false _ e.if-not-same_twos.false-raw);
         rule_conditions_are = d.before.same_bytes.ensures.0 (not-false _ d.if-not-same_bytes.false-raw);
-        condition_places_lem = c.same_twos-in-Accepted.ensures.0 y;
+        condition_places_are = c.same_twos-in-Accepted.ensures.0 y;
       }),
-      λ i. c.same_twos-in-Accepted.ensures.1 (k.0 i).condition_places_lem,
+      λ i. c.same_twos-in-Accepted.ensures.1 (k.0 i).condition_places_are,
     )
 
 pub index_agrees_spec : {M : Type 1} → statement M

@@ -1,0 +1,16 @@
+pub mod FieldLaws
+pub mod RowLaws
+pub mod Numbers
+pub mod Put
+pub mod Laying
+pub mod Judging
+pub mod Passing
+pub mod Worded
+pub mod Flat
+pub mod Reading
+pub mod Faithful
+pub mod Written
+pub mod Held
+pub mod Returned
+pub mod ReadBack
+pub mod Unfit

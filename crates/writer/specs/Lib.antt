@@ -1,0 +1,7 @@
+pub mod Fields
+pub mod Rows
+pub mod Bytes
+pub mod Layout
+pub mod Values
+pub mod Promise
+pub mod Held
