@@ -19,8 +19,8 @@
  *   malletfrond_line    10 the room is broken; 16 no such complaint; 15 the buffer is shorter than the line
  *   malletfrond_wording  1 to 7 the book is not accepted; 17 no rule of that number
  *   malletfrond_check   none
- *   malletfrond_write_book   1, 3 to 7 as the book would be refused, at the place where the record would have stood; 19 the buffer is shorter than the book
- *   malletfrond_read_rows    1 to 7 the book is not accepted; 19 the rows or the wordings are too few
+ *   malletfrond_write_book   1, 3 to 7 as the book would be refused, at the place where the record would have stood (0 for 1 and 19); 19 the buffer is shorter than the book
+ *   malletfrond_read_rows    1 to 7 the book is not accepted (place: offset of the record at fault, 0 for 1 and 19); 19 the rows or the wordings are too few
  *
  * "Broken" is a rule over the room's first bytes (docs/ROOM.md). Memory that this library has opened and that nothing else has changed is never broken. Other memory
  * may be lent too: the calls are safe on any bytes, but what they then answer about matches means nothing.
