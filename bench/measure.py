@@ -120,7 +120,7 @@ def run(matcher, workload, blocks=False):
                 file.write(matcher.rules(workload.book))
             names.append("rules.clp")
         plugin = "file=./count.so,out=count.txt" + (",blocks=1" if blocks else "")
-        command = [*steady(), shutil.which(QEMU), "-cpu", "qemu64", "-plugin", plugin, "./program", *names]
+        command = [*steady(), shutil.which(QEMU), "-cpu", "Nehalem", "-plugin", plugin, "./program", *names]
         done = subprocess.run(command, cwd=folder, env={}, stdin=subprocess.DEVNULL, capture_output=True, timeout=900)
         if done.returncode:
             sys.exit("bench: %s on %s ends with %d\n%s" % (matcher.title, workload.name, done.returncode, done.stderr.decode()))
@@ -252,7 +252,7 @@ def conditions():
         return subprocess.run(command, check=True, capture_output=True, text=True).stdout.split("\n")[0]
     gcc = first_line(CC, "-dumpfullversion")
     qemu = re.search(r"version ([0-9.]+)", first_line(QEMU, "--version")).group(1)
-    return "gcc %s -O3, static; CLIPS 6.30 at -O3; QEMU %s, processor qemu64" % (gcc, qemu)
+    return "gcc %s -O3, static; CLIPS 6.30 at -O3; QEMU %s, processor Nehalem" % (gcc, qemu)
 
 
 def check_workloads():

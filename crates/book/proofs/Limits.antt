@@ -6,10 +6,11 @@ use mathlib.Core.List.{List, [], ◌∷◌, ◌++◌}
 use mathlib.Core.Bool.{true}
 use native.Mathlib.Omega.{arith}
 use lib.ListN.{length, drop}
+use Rattle.std.specs.Prelude.{Ok}
 use Rattle.book.specs.declared.record.Record.TheVariants as r
 use Rattle.book.specs.declared.record.Test.{Test}
 use Rattle.book.specs.Record.{record_at}
-use Rattle.book.specs.Judgement.{wording_of, test_fits, rule_judged}
+use Rattle.book.specs.Judgement.{taken, wording_of, test_fits, rule_judged}
 use Rattle.book.specs.Rules.{Rule, no_rule, last_or, on_last, with_condition, with_test, standing, condition_count}
 use Rattle.book.specs.Read.{accepted, grown, read_book}
 use Rattle.book.specs.Limits.{All, Ascending, ConditionKept, RuleKept, Kept}
@@ -111,7 +112,7 @@ record Growing (rules : List Rule) : Type 0 where
   earlier : Earlier rules
 
 module _ (book : List ℕ) where
-  rule-more : (at number : ℕ) (rules : List Rule) → record_at book at ≡ r.Rule number → rule_judged (standing rules) number (drop (at + 1) book) ≡ 0
+  rule-more : (at number : ℕ) (rules : List Rule) → record_at book at ≡ Ok (r.Rule number) → rule_judged (standing rules) number (drop (at + 1) book) ≡ taken
       → Growing rules → Growing (grown rules (r.Rule number) (drop (at + 1) book))
   unfolding grown standing no_rule
   rule-more at number rules e j g =

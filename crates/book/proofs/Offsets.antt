@@ -8,10 +8,10 @@ use native.Mathlib.Nat.{add-zero, zero-add}
 use native.Mathlib.Omega.{arith}
 use lib.Dec.{eqb}
 use lib.ListN.{length, take, drop, get_or}
+use Rattle.std.specs.Prelude.{Result, Ok, Err}
 use Rattle.numbers.specs.BigEndian.{uint}
 use Rattle.book.specs.declared.record.Test.{Test}
-use Rattle.book.specs.declared.rules.WordingPlace.{WordingPlace}
-use Rattle.book.specs.declared.rules.WordingPlace.TheVariants.{At, Refused}
+use Rattle.book.specs.declared.refusal.Refusal.{Refusal}
 use Rattle.book.specs.Record.{record_at, test_size}
 use Rattle.book.specs.Rules.{Rule, tests_size, conditions_size, rules_size, rule_places, condition_places_in, condition_places}
 use Rattle.book.specs.Tests.{tests_from, tests_at}
@@ -23,11 +23,11 @@ use Rattle.book.proofs.TestsFrom.{NoTest, tests_from-none, tests_from-more}
 
 -- ---- the part of the book that a wording's place shows; where it is refused there are no bytes
 
-abbrev pub Shows : List ℕ → WordingPlace → List ℕ → Type 0
-Shows book (At p) w = (p + 24 ≤ length book) × (take 24 (drop p book) ≡ w)
-Shows book (Refused number place) w = w ≡ []
+abbrev pub Shows : List ℕ → Result ℕ Refusal → List ℕ → Type 0
+Shows book (Ok p) w = (p + 24 ≤ length book) × (take 24 (drop p book) ≡ w)
+Shows book (Err e) w = w ≡ []
 
-shows_cond : (book : List ℕ) (b : Bool) (p q : WordingPlace) (v w : List ℕ) → Shows book p v → Shows book q w → Shows book (cond b p q) (cond b v w)
+shows_cond : (book : List ℕ) (b : Bool) (p q : Result ℕ Refusal) (v w : List ℕ) → Shows book p v → Shows book q w → Shows book (cond b p q) (cond b v w)
 shows_cond book true p q v w h k = h
 shows_cond book false p q v w h k = k
 

@@ -10,22 +10,24 @@ use borrow.Author.Tests.{le-leb, leb-true}
 use lib.Dec.{leb, eqb}
 use lib.ListN.{length, take, drop, get_or, length-drop}
 use lib.Seq.{drop-drop, length-take-le}
+use Rattle.std.specs.Prelude.{Result, Ok, Err}
 use Rattle.numbers.specs.BigEndian.{uint}
 use Rattle.numbers.proofs.BigEndian.{uint-drop}
 use Rattle.book.specs.declared.record.Record.{Record}
-use Rattle.book.specs.declared.record.Record.TheVariants.{Rule, Condition, Test, End, Refused}
+use Rattle.book.specs.declared.record.Record.TheVariants.{Rule, Condition, Test, End}
+use Rattle.book.specs.declared.refusal.Refusal.{Refusal}
 use Rattle.book.specs.Record.{whole, rule_body, constant_body, position_body, gap_body, by_kind, record_at}
 use Rattle.book.specs.Judgement.{wording_of}
 
 -- of a record that is a rule: its body is all there, and its number stands first in it
-abbrev RuleOf : List ℕ → Record → Type 0
-RuleOf body (Rule n) = (26 ≤ length body) × (n ≡ uint 2 body 0)
-RuleOf body Condition = Unit {0}
-RuleOf body (Test t) = Unit {0}
-RuleOf body End = Unit {0}
-RuleOf body (Refused n p) = Unit {0}
+abbrev RuleOf : List ℕ → Result Record Refusal → Type 0
+RuleOf body (Ok (Rule n)) = (26 ≤ length body) × (n ≡ uint 2 body 0)
+RuleOf body (Ok Condition) = Unit {0}
+RuleOf body (Ok (Test t)) = Unit {0}
+RuleOf body (Ok End) = Unit {0}
+RuleOf body (Err e) = Unit {0}
 
-rule_cond : (body : List ℕ) (b : Bool) (r s : Record) → (b ≡ true → RuleOf body r) → RuleOf body s → RuleOf body (cond b r s)
+rule_cond : (body : List ℕ) (b : Bool) (r s : Result Record Refusal) → (b ≡ true → RuleOf body r) → RuleOf body s → RuleOf body (cond b r s)
 rule_cond body true r s p q = p refl
 rule_cond body false r s p q = q
 
@@ -44,8 +46,8 @@ unfolding record_at
 rule-record_at book at =
     rule_cond (drop (at + 1) book) (leb (length book) at) _ _ (λ t. tt) (rule-by_kind (get_or book at 0) (drop (at + 1) book) at)
 
-module _ (book : List ℕ) (at number : ℕ) (e : record_at book at ≡ Rule number) where
-  body : RuleOf (drop (at + 1) book) (Rule number)
+module _ (book : List ℕ) (at number : ℕ) (e : record_at book at ≡ Ok (Rule number)) where
+  body : RuleOf (drop (at + 1) book) (Ok (Rule number))
   body = rw e at (rule-record_at book at)
 
   pub rule-within : at + 27 ≤ length book

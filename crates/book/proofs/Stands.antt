@@ -5,6 +5,7 @@ use mathlib.Core.Path.{◌≡◌, refl}
 use mathlib.Core.List.{List, [], ◌∷◌, ◌++◌}
 use native.Mathlib.Omega.{arith}
 use lib.ListN.{length, drop}
+use Rattle.std.specs.Prelude.{Ok}
 use Rattle.book.specs.declared.record.Record.TheVariants as r
 use Rattle.book.specs.declared.record.Test.{Test}
 use Rattle.book.specs.Record.{record_at, test_size}
@@ -23,7 +24,7 @@ module _ (book : List ℕ) where
   abbrev Before : ℕ → List Rule → Type 0
   Before at rules = RulesStand book 0 rules × (rules_size rules ≡ at)
 
-  rule-more : (at number : ℕ) (rules : List Rule) → record_at book at ≡ r.Rule number → Before at rules → Before (at + 27) (grown rules (r.Rule number) (drop (at + 1) book))
+  rule-more : (at number : ℕ) (rules : List Rule) → record_at book at ≡ Ok (r.Rule number) → Before at rules → Before (at + 27) (grown rules (r.Rule number) (drop (at + 1) book))
   unfolding grown conditions_size
   rule-more at number rules e h =
       let new : Rule = record { number = number; wording = wording_of (drop (at + 1) book); conditions = [] } in
@@ -32,7 +33,7 @@ module _ (book : List ℕ) where
         omega (arith, total-append rules_sums rules new),
       )
 
-  condition_more : (at : ℕ) (rules : List Rule) → record_at book at ≡ r.Condition → 0 < length rules → Before at rules → Before (at + 1) (on_last with_condition rules)
+  condition_more : (at : ℕ) (rules : List Rule) → record_at book at ≡ Ok r.Condition → 0 < length rules → Before at rules → Before (at + 1) (on_last with_condition rules)
   unfolding with_condition tests_size
   condition_more at rules e some h =
       let last : List (List Test) = (last_or no_rule rules).conditions in (
@@ -46,7 +47,7 @@ module _ (book : List ℕ) where
         omega (arith, total-on_last rules_sums with_condition 1 no_rule rules some (omega (arith, total-append conditions_sums last []))),
       )
 
-  test_more : (at : ℕ) (t : Test) (rules : List Rule) → record_at book at ≡ r.Test t → 0 < length (last_or no_rule rules).conditions → Before at rules → Before (at + test_size t) (on_last (with_test t) rules)
+  test_more : (at : ℕ) (t : Test) (rules : List Rule) → record_at book at ≡ Ok (r.Test t) → 0 < length (last_or no_rule rules).conditions → Before at rules → Before (at + test_size t) (on_last (with_test t) rules)
   unfolding with_test standing
   test_more at t rules e some h =
       let conditions : List (List Test) = (last_or no_rule rules).conditions in

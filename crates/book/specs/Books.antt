@@ -2,7 +2,8 @@
 use Rattle.std.specs.Prelude.{ℕ, List, [], ◌∷◌, ◌++◌, pos, replicate}
 use Rattle.book.specs.declared.record.Test.TheVariants.{Constant, Gap}
 use Rattle.book.specs.Rules.{Rule}
-use Rattle.book.specs.Read.{BookRead, refused}
+use Rattle.book.specs.declared.refusal.Cause.TheVariants.{BookTooLong, CutShort, UnknownKind, Misplaced, NumberNotAbove, BadBody, TooMany}
+use Rattle.book.specs.Read.{BookRead, refuse}
 
 -- "jump over 500", and eleven spaces
 unfoldable pub jump_over500 : List ℕ
@@ -49,14 +50,14 @@ rule_record number = 1 ∷ 0 ∷ number ∷ replicate 24 32
 -- "condition .. before any rule", "a byte after the end"; "the first not above 0"; "place over 2"; "7th condition"
 unfoldable pub refused_books : List (List ℕ × BookRead)
 refused_books =
-    (replicate 8193 9, refused 1 0)
-    ∷ ([], refused 2 0)
-    ∷ (rule_record 1, refused 2 27)
-    ∷ (1 ∷ 0 ∷ 1 ∷ [], refused 2 0)
-    ∷ (0 ∷ [], refused 3 0)
-    ∷ (2 ∷ [], refused 4 0)
-    ∷ (9 ∷ 9 ∷ [], refused 4 1)
-    ∷ (rule_record 0 ++ (2 ∷ 9 ∷ []), refused 5 0)
-    ∷ (rule_record 1 ++ (2 ∷ 4 ∷ 3 ∷ 0 ∷ 0 ∷ 0 ∷ 9 ∷ []), refused 6 28)
-    ∷ (rule_record 1 ++ replicate 7 2, refused 7 33)
+    (replicate 8193 9, refuse BookTooLong 0)
+    ∷ ([], refuse CutShort 0)
+    ∷ (rule_record 1, refuse CutShort 27)
+    ∷ (1 ∷ 0 ∷ 1 ∷ [], refuse CutShort 0)
+    ∷ (0 ∷ [], refuse UnknownKind 0)
+    ∷ (2 ∷ [], refuse Misplaced 0)
+    ∷ (9 ∷ 9 ∷ [], refuse Misplaced 1)
+    ∷ (rule_record 0 ++ (2 ∷ 9 ∷ []), refuse NumberNotAbove 0)
+    ∷ (rule_record 1 ++ (2 ∷ 4 ∷ 3 ∷ 0 ∷ 0 ∷ 0 ∷ 9 ∷ []), refuse BadBody 28)
+    ∷ (rule_record 1 ++ replicate 7 2, refuse TooMany 33)
     ∷ []

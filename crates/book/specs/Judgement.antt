@@ -1,10 +1,12 @@
 -- Refusals 4, 7, 5 and 6 of a record that was taken apart, by what the records before it have left. Assumes nothing: these are definitions.
-use Rattle.std.specs.Prelude.{ℕ, ◌+◌, ◌-◌, ◌≤◌, List, [], ◌∷◌, Bool, true, cond, not, ◌&&◌, leb, eqb, length, take, drop}
+use Rattle.std.specs.Prelude.{ℕ, ◌+◌, ◌-◌, ◌≤◌, List, [], ◌∷◌, Bool, true, cond, not, ◌&&◌, leb, eqb, length, take, drop, Result, Ok, Err}
 use Rattle.std.specs.Int.Signed.{le_z}
 use Rattle.book.specs.declared.judgement.Standing.{Standing}
 use Rattle.book.specs.declared.record.Record.{Record}
-use Rattle.book.specs.declared.record.Record.TheVariants.{Rule, Condition, Test, End, Refused}
+use Rattle.book.specs.declared.record.Record.TheVariants.{Rule, Condition, Test, End}
 use Rattle.book.specs.declared.record.Test as t
+use Rattle.book.specs.declared.refusal.Cause.{Cause}
+use Rattle.book.specs.declared.refusal.Cause.TheVariants.{Misplaced, TooMany, NumberNotAbove, BadBody}
 use Rattle.book.specs.declared.record.Test.TheVariants.{Constant, Position, Gap}
 
 -- "wording (24 bytes, each 32 to 126, ..)"
@@ -26,30 +28,36 @@ test_fits (Gap place condition other low high) own = leb place 2 && leb conditio
 unfoldable pub unfinished : Standing → Bool
 unfinished s = not (eqb s.rules 0) && eqb s.conditions 0
 
--- the first that holds, in the order 4, 7, 5, 6; 0 where none does
+-- taken, or refused for a cause
+abbrev pub Judged : Type 0
+Judged = Result (Unit {0}) Cause
+
+abbrev pub taken : Judged
+taken = Ok tt
+
+-- the first that holds, in the order 4, 7, 5, 6; taken where none does
 -- 4: "next rule .. when the rule before has no condition"; 7: "33rd rule"; 5: "rule number not above the one before (the first not above 0)"; 6: "wording byte"
-unfoldable pub rule_judged : Standing → ℕ → List ℕ → ℕ
+unfoldable pub rule_judged : Standing → ℕ → List ℕ → Judged
 rule_judged s number body =
-    cond (unfinished s) 4 (cond (leb 32 s.rules) 7 (cond (leb number s.last) 5 (cond (printable (wording_of body)) 0 6)))
+    cond (unfinished s) (Err Misplaced) (cond (leb 32 s.rules) (Err TooMany) (cond (leb number s.last) (Err NumberNotAbove) (cond (printable (wording_of body)) taken (Err BadBody))))
 
 -- 4: "condition .. before any rule"; 7: "7th condition"
-unfoldable pub condition_judged : Standing → ℕ
-condition_judged s = cond (eqb s.rules 0) 4 (cond (leb 6 s.conditions) 7 0)
+unfoldable pub condition_judged : Standing → Judged
+condition_judged s = cond (eqb s.rules 0) (Err Misplaced) (cond (leb 6 s.conditions) (Err TooMany) taken)
 
 -- 4: "test before any rule; test before any condition of its rule"; 7: "9th test"; 6: "place over 2, .."
-unfoldable pub test_judged : Standing → t.Test → ℕ
-test_judged s t = cond (eqb s.conditions 0) 4 (cond (leb 8 s.tests) 7 (cond (test_fits t (s.conditions - 1)) 0 6))
+unfoldable pub test_judged : Standing → t.Test → Judged
+test_judged s t = cond (eqb s.conditions 0) (Err Misplaced) (cond (leb 8 s.tests) (Err TooMany) (cond (test_fits t (s.conditions - 1)) taken (Err BadBody)))
 
 -- 4: "end when the rule before has no condition"
-unfoldable pub end_judged : Standing → ℕ
-end_judged s = cond (unfinished s) 4 0
+unfoldable pub end_judged : Standing → Judged
+end_judged s = cond (unfinished s) (Err Misplaced) taken
 
-unfoldable pub judged : Standing → Record → List ℕ → ℕ
+unfoldable pub judged : Standing → Record → List ℕ → Judged
 judged s (Rule number) body = rule_judged s number body
 judged s Condition body = condition_judged s
 judged s (Test t) body = test_judged s t
 judged s End body = end_judged s
-judged s (Refused number place) body = number
 
 -- what a record that is taken leaves to the next
 unfoldable pub after : Standing → Record → Standing
@@ -57,7 +65,6 @@ after s (Rule number) = record { rules = s.rules + 1; last = number; conditions 
 after s Condition = record { rules = s.rules; last = s.last; conditions = s.conditions + 1; tests = 0; total = s.total + 1 }
 after s (Test t) = record { rules = s.rules; last = s.last; conditions = s.conditions; tests = s.tests + 1; total = s.total }
 after s End = s
-after s (Refused number place) = s
 
 -- "Limits: 8,192 bytes, 32 rules, 6 conditions a rule, 8 tests a condition."
 pub record Within (s : Standing) : Type 0 where

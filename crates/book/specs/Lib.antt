@@ -1,3 +1,4 @@
+pub mod Refusals
 pub mod Record
 pub mod Judgement
 pub mod Rules

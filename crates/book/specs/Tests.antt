@@ -1,18 +1,27 @@
 -- The tests of a condition, read at an offset, whatever the bytes. Assumes nothing: these are definitions.
-use Rattle.std.specs.Prelude.{ℕ, zero, suc, ◌+◌, ◌-◌, List, [], ◌∷◌, ◌++◌, length, replicate}
+use Rattle.std.specs.Prelude.{ℕ, zero, suc, ◌+◌, ◌-◌, List, [], ◌∷◌, ◌++◌, length, replicate, Option, Some, None, Result, Ok, Err}
 use Rattle.book.specs.declared.record.Record.{Record}
 use Rattle.book.specs.declared.record.Record.TheVariants as r
 use Rattle.book.specs.declared.record.Test.{Test}
 use Rattle.book.specs.declared.record.Test.TheVariants.{Constant}
+use Rattle.book.specs.declared.refusal.Refusal.{Refusal}
 use Rattle.book.specs.Record.{record_at, test_size}
 
 -- a record that is a test, and those after it; any other record ends the list
-unfoldable pub if_test : Record → (Test → List Test) → List Test
-if_test (r.Test t) on = on t
-if_test (r.Rule n) on = []
-if_test r.Condition on = []
-if_test r.End on = []
-if_test (r.Refused n p) on = []
+unfoldable pub if_test : Result Record Refusal → (Test → List Test) → List Test
+if_test (Ok (r.Test t)) on = on t
+if_test (Ok (r.Rule n)) on = []
+if_test (Ok r.Condition) on = []
+if_test (Ok r.End) on = []
+if_test (Err e) on = []
+
+-- the test of a record that is one
+unfoldable pub test_in : Result Record Refusal → Option Test
+test_in (Ok (r.Test t)) = Some t
+test_in (Ok (r.Rule n)) = None
+test_in (Ok r.Condition) = None
+test_in (Ok r.End) = None
+test_in (Err e) = None
 
 -- at most n tests, one after the other from `at` on
 unfoldable pub tests_from : ℕ → List ℕ → ℕ → List Test

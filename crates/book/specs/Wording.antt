@@ -1,9 +1,9 @@
 -- The wording by rule number: "the book, then 17". Assumes nothing: these are definitions.
-use Rattle.std.specs.Prelude.{ℕ, ◌+◌, List, [], ◌∷◌, cond, eqb}
+use Rattle.std.specs.Prelude.{ℕ, ◌+◌, List, [], ◌∷◌, cond, eqb, Option, Some, None, Result, Ok, Err}
 use Rattle.numbers.specs.BigEndian.{uint}
-use Rattle.book.specs.declared.rules.WordingPlace.{WordingPlace}
-use Rattle.book.specs.declared.rules.WordingPlace.TheVariants.{At, Refused}
-use Rattle.book.specs.declared.rules.Refusal.{Refusal}
+use Rattle.book.specs.declared.refusal.Cause.TheVariants.{NoSuchRule}
+use Rattle.book.specs.declared.refusal.Refusal.{Refusal}
+use Rattle.book.specs.Refusals.{refusal}
 use Rattle.book.specs.Rules.{Rule, conditions_size}
 use Rattle.book.specs.Read.{BookRead, accepted, refused}
 
@@ -15,24 +15,24 @@ wording_in (r ∷ rules) n = cond (eqb r.number n) r.wording (wording_in rules n
 -- "The wording comes back as that part of the lent book, all 24 bytes; on a refusal the part is empty"
 unfoldable pub rule_wording : BookRead → ℕ → List ℕ
 rule_wording (accepted rules) n = wording_in rules n
-rule_wording (refused number place) n = []
+rule_wording (refused e) n = []
 
 -- where it stands: three bytes into the rule's record; "no rule of that number in the book" is 17
-unfoldable pub wording_place_in : ℕ → List Rule → ℕ → WordingPlace
-wording_place_in at [] n = Refused 17 0
+unfoldable pub wording_place_in : ℕ → List Rule → ℕ → Result ℕ Refusal
+wording_place_in at [] n = Err (refusal NoSuchRule 0)
 wording_place_in at (r ∷ rules) n =
-    cond (eqb r.number n) (At (at + 3)) (wording_place_in (at + (27 + conditions_size r.conditions)) rules n)
+    cond (eqb r.number n) (Ok (at + 3)) (wording_place_in (at + (27 + conditions_size r.conditions)) rules n)
 
-unfoldable pub wording_place : BookRead → ℕ → WordingPlace
+unfoldable pub wording_place : BookRead → ℕ → Result ℕ Refusal
 wording_place (accepted rules) n = wording_place_in 0 rules n
-wording_place (refused number place) n = Refused number place
+wording_place (refused e) n = Err e
 
 -- the same, sought among the places of rule records: what the code's loop answers
-unfoldable pub sought : List ℕ → List ℕ → ℕ → WordingPlace
-sought book [] n = Refused 17 0
-sought book (p ∷ places) n = cond (eqb (uint 2 book (p + 1)) n) (At (p + 3)) (sought book places n)
+unfoldable pub sought : List ℕ → List ℕ → ℕ → Result ℕ Refusal
+sought book [] n = Err (refusal NoSuchRule 0)
+sought book (p ∷ places) n = cond (eqb (uint 2 book (p + 1)) n) (Ok (p + 3)) (sought book places n)
 
--- "a call beside it gives number and place": zeros where there is a wording
-unfoldable pub refusal_in : WordingPlace → Refusal
-refusal_in (At offset) = record { number = 0; place = 0 }
-refusal_in (Refused number place) = record { number = number; place = place }
+-- "a call beside it gives number and place": none where there is a wording
+unfoldable pub refusal_in : Result ℕ Refusal → Option Refusal
+refusal_in (Ok offset) = None
+refusal_in (Err e) = Some e

@@ -3,13 +3,11 @@ ghost use Rattle.std.specs.Prelude.{◌≡◌};
 ghost use Rattle.book.specs.Judgement.{test_fits, printable, wording_of, unfinished, rule_judged, condition_judged, test_judged, end_judged, judged};
 
 use crate::record::{Record, Test};
-use crate::refusal::{
-    BAD_BODY, MISPLACED, MOST_CONDITIONS, MOST_RULES, MOST_TESTS, NUMBER_NOT_ABOVE, TOO_MANY,
-};
+use crate::refusal::{Cause, MOST_CONDITIONS, MOST_RULES, MOST_TESTS};
 
 // What of the records before decides about the next one: how many rules, the last one's number, how many conditions that rule has,
 // how many tests the last of these; and the conditions of all rules.
-#[derive(Clone, Copy)]
+#[derive(Clone, Copy, Debug, PartialEq, Eq)]
 pub struct Standing {
     pub rules: usize,
     pub last: u16,
@@ -22,31 +20,19 @@ pub struct Standing {
 fn all_printable(text: &[u8]) -> bool
     ensures { result ≡ printable text.now }
 {
-    let mut i: usize = 0;
-    while i < text.len() {
-        let b = text[i];
-        if b < 32 {
-            return false;
-        }
-        if 126 < b {
-            return false;
-        }
-        i += 1;
-    }
-    true
+    text.iter().all(|b| 32 <= *b && *b <= 126)
 }
 
 // The wording in a rule's body: the 24 bytes after the number, or an empty part where they are not all there.
+#[tactic(auto, unfolding(crate::specs::Judgement::wording_of))]
 pub fn wording_of<'a>(body: &'a [u8]) -> &'a [u8]
     ensures { result.now ≡ wording_of body.now }
 {
-    if body.len() < 26 {
-        return &body[0..0];
-    }
-    &body[2..26]
+    body.get(2..26).unwrap_or(&[])
 }
 
 // Whether a test's numbers are in range in condition `own` of its rule.
+#[tactic(auto, unfolding(crate::specs::Judgement::test_fits))]
 pub fn test_fits(t: Test, own: usize) -> bool
     ensures { result ≡ test_fits t own }
 {
@@ -54,7 +40,7 @@ pub fn test_fits(t: Test, own: usize) -> bool
         Test::Constant {
             place,
             relation,
-            number: _,
+            ..
         } => place <= 2 && relation <= 5,
         Test::Position {
             place,
@@ -73,71 +59,74 @@ pub fn test_fits(t: Test, own: usize) -> bool
 }
 
 // Whether there is a rule in hand and it has no condition yet.
+#[tactic(auto, unfolding(crate::specs::Judgement::unfinished))]
 fn is_unfinished(s: Standing) -> bool
     ensures { result ≡ unfinished s }
 {
-    if s.rules == 0 {
-        return false;
-    }
-    s.conditions == 0
+    s.rules != 0 && s.conditions == 0
 }
 
-fn judge_rule(s: Standing, number: u16, body: &[u8]) -> u8
+#[tactic(auto, unfolding(crate::specs::Judgement::rule_judged))]
+fn judge_rule(s: Standing, number: u16, body: &[u8]) -> Result<(), Cause>
     ensures { result ≡ rule_judged s number body.now }
 {
     if is_unfinished(s) {
-        return MISPLACED;
+        return Err(Cause::Misplaced);
     }
     if MOST_RULES <= s.rules {
-        return TOO_MANY;
+        return Err(Cause::TooMany);
     }
     if number <= s.last {
-        return NUMBER_NOT_ABOVE;
+        return Err(Cause::NumberNotAbove);
     }
     if all_printable(wording_of(body)) {
-        return 0;
+        return Ok(());
     }
-    BAD_BODY
+    Err(Cause::BadBody)
 }
 
-fn judge_condition(s: Standing) -> u8
+#[tactic(auto, unfolding(crate::specs::Judgement::condition_judged))]
+fn judge_condition(s: Standing) -> Result<(), Cause>
     ensures { result ≡ condition_judged s }
 {
     if s.rules == 0 {
-        return MISPLACED;
+        return Err(Cause::Misplaced);
     }
     if MOST_CONDITIONS <= s.conditions {
-        return TOO_MANY;
+        return Err(Cause::TooMany);
     }
-    0
+    Ok(())
 }
 
-fn judge_test(s: Standing, t: Test) -> u8
+#[tactic(auto, unfolding(crate::specs::Judgement::test_judged))]
+fn judge_test(s: Standing, t: Test) -> Result<(), Cause>
     ensures { result ≡ test_judged s t }
 {
     if s.conditions == 0 {
-        return MISPLACED;
+        return Err(Cause::Misplaced);
     }
     if MOST_TESTS <= s.tests {
-        return TOO_MANY;
+        return Err(Cause::TooMany);
     }
     if test_fits(t, s.conditions - 1) {
-        return 0;
+        return Ok(());
     }
-    BAD_BODY
+    Err(Cause::BadBody)
 }
 
-fn judge_end(s: Standing) -> u8
+#[tactic(auto, unfolding(crate::specs::Judgement::end_judged))]
+fn judge_end(s: Standing) -> Result<(), Cause>
     ensures { result ≡ end_judged s }
 {
     if is_unfinished(s) {
-        return MISPLACED;
+        return Err(Cause::Misplaced);
     }
-    0
+    Ok(())
 }
 
-// The number with which a record is refused, tried for 4, 7, 5 and 6, or 0; `body` is the part of the book after its kind.
-pub fn judge(s: Standing, r: Record, body: &[u8]) -> u8
+// Why a record is refused, tried for 4, 7, 5 and 6, if it is; `body` is the part of the book after its kind.
+#[tactic(auto, unfolding(crate::specs::Judgement::judged))]
+pub fn judge(s: Standing, r: Record, body: &[u8]) -> Result<(), Cause>
     ensures { result ≡ judged s r body.now }
 {
     match r {
@@ -145,6 +134,5 @@ pub fn judge(s: Standing, r: Record, body: &[u8]) -> u8
         Record::Condition => judge_condition(s),
         Record::Test(t) => judge_test(s, t),
         Record::End => judge_end(s),
-        Record::Refused { number, place: _ } => number,
     }
 }

@@ -1,112 +1,84 @@
 // What the matcher and the line need of a book: a rule's wording by its number, and the tests of a condition at an offset.
 ghost use Rattle.std.specs.Prelude.{◌≡◌, ℕ, ◌+◌, ◌≤◌, ◌<◌, length, take, get_or};
 ghost use Rattle.book.specs.Read.{read_book};
-ghost use Rattle.book.specs.Tests.{tests_at, eight};
+ghost use Rattle.book.specs.Record.{record_at};
+ghost use Rattle.book.specs.Tests.{test_in, tests_at, eight};
 ghost use Rattle.book.specs.Wording.{rule_wording, wording_place, refusal_in, sought};
 
-use crate::reader::{BookAnswer, find_places};
+use crate::reader::find_places;
 use crate::record::{Record, Test, record_at, test_size};
-use crate::refusal::NO_SUCH_RULE;
-
-// Where a wording stands, or the refusal.
-#[derive(Clone, Copy)]
-pub enum WordingPlace {
-    At(usize),
-    Refused { number: u8, place: usize },
-}
-
-// The number and place of a refusal; zeros for none.
-#[derive(Clone, Copy)]
-pub struct Refusal {
-    pub number: u8,
-    pub place: usize,
-}
+use crate::refusal::{Cause, MOST_TESTS, Refusal};
 
 // The first of the rules' places whose record has that number: its wording stands three bytes into it.
-fn seek(book: &[u8], at: [u16; 32], rules: usize, number: u64) -> WordingPlace
-    requires { (rules ≤ 32) × ((k : ℕ) → k < rules → get_or at k 0 + 27 ≤ length book.now) }
-    ensures { result ≡ sought book.now (take rules at) number }
+fn seek(book: &[u8], places: &[u16], number: u64) -> Result<usize, Refusal>
+    requires { (k : ℕ) → k < length places.now → get_or places.now k 0 + 27 ≤ length book.now }
+    ensures { result ≡ sought book.now places.now number }
 {
-    let mut i: usize = 0;
-    while i < rules {
-        let place = at[i] as usize;
-        let n = numbers::uint_at(book, place + 1, 2);
-        if n == number {
-            return WordingPlace::At(place + 3);
+    for place in places {
+        let at = *place as usize;
+        if numbers::two_at(book, at + 1) as u64 == number {
+            return Ok(at + 3);
         }
-        i += 1;
     }
-    WordingPlace::Refused {
-        number: NO_SUCH_RULE,
+    Err(Refusal {
+        cause: Cause::NoSuchRule,
         place: 0,
-    }
+    })
 }
 
 // The offset of the 24 bytes of wording of the rule of that number.
-pub fn wording_place(book: &[u8], number: u64) -> WordingPlace
+#[tactic(auto, using(crate::proofs::Wordings::rules_few))]
+pub fn wording_place(book: &[u8], number: u64) -> Result<usize, Refusal>
     ensures { result ≡ wording_place (read_book book.now) number }
 {
-    let found = find_places(book);
-    let answer = found.answer;
-    match answer {
-        BookAnswer::Refused { number, place } => WordingPlace::Refused { number, place },
-        BookAnswer::Accepted {
-            rules,
-            conditions: _,
-        } => {
-            let places = found.places;
-            let at = places.rules;
-            seek(book, at, rules, number)
-        }
-    }
+    let found = find_places(book)?;
+    let places = &found.places.rules[..found.size.rules];
+    seek(book, places, number)
 }
 
 // The 24 bytes of wording of the rule of that number, or an empty part.
 pub fn wording<'a>(book: &'a [u8], number: u64) -> &'a [u8]
     ensures { result.now ≡ rule_wording (read_book book.now) number }
 {
-    let place = wording_place(book, number);
-    let WordingPlace::At(from) = place else {
-        return &book[0..0];
-    };
-    let to = from + 24;
-    &book[from..to]
+    match wording_place(book, number) {
+        Ok(from) => {
+            let to = from + 24;
+            &book[from..to]
+        }
+        Err(_) => &book[0..0],
+    }
 }
 
-// Why there is no wording of that number: the book's refusal, then 17; zeros where there is one.
-pub fn wording_refusal(book: &[u8], number: u64) -> Refusal
+// Why there is no wording of that number: the book's refusal, then 17; none where there is one.
+#[tactic(auto, unfolding(crate::specs::Wording::refusal_in))]
+pub fn wording_refusal(book: &[u8], number: u64) -> Option<Refusal>
     ensures { result ≡ refusal_in (wording_place (read_book book.now) number) }
 {
-    let place = wording_place(book, number);
-    match place {
-        WordingPlace::At(_) => Refusal {
-            number: 0,
-            place: 0,
-        },
-        WordingPlace::Refused { number, place } => Refusal { number, place },
-    }
+    wording_place(book, number).err()
 }
 
-// How many tests stand one after the other from `at` on: eight at most.
-pub fn test_count(book: &[u8], at: usize) -> usize
-    ensures { result ≡ length (tests_at book.now at) }
+// The tests of a condition: the first `count` of eight, filled up with a test that every reading passes.
+#[derive(Clone, Copy)]
+pub struct Tests {
+    pub tests: [Test; 8],
+    pub count: usize,
+}
+
+// The test that stands at `at`, if the record there is one.
+#[tactic(auto, unfolding(crate::specs::Tests::test_in))]
+fn test_at(book: &[u8], at: usize) -> Option<Test>
+    ensures { result ≡ test_in (record_at book.now at) }
 {
-    let mut n: usize = 0;
-    let mut place = at;
-    while n < 8 {
-        let r = record_at(book, place);
-        let Record::Test(t) = r else {
-            return n;
-        };
-        place += test_size(t);
-        n += 1;
-    }
-    n
+    let Record::Test(t) = record_at(book, at).ok()? else {
+        return None;
+    };
+    Some(t)
 }
 
-// The tests that stand one after the other from `at` on, filled up to eight with a test that every reading passes.
-pub fn tests_at(book: &[u8], at: usize) -> [Test; 8]
-    ensures { result ≡ eight (tests_at book.now at) }
+// The tests that stand one after the other from `at` on: eight at most.
+pub fn tests_at(book: &[u8], at: usize) -> Tests
+    ensures count { result.count ≡ length (tests_at book.now at) }
+    ensures tests { result.tests ≡ eight (tests_at book.now at) }
 {
     let blank = Test::Constant {
         place: 0,
@@ -114,16 +86,16 @@ pub fn tests_at(book: &[u8], at: usize) -> [Test; 8]
         number: 0,
     };
     let mut tests = [blank; 8];
-    let mut n: usize = 0;
     let mut place = at;
-    while n < 8 {
-        let r = record_at(book, place);
-        let Record::Test(t) = r else {
-            return tests;
+    for count in 0..MOST_TESTS {
+        let Some(t) = test_at(book, place) else {
+            return Tests { tests, count };
         };
-        tests[n] = t;
+        tests[count] = t;
         place += test_size(t);
-        n += 1;
     }
-    tests
+    Tests {
+        tests,
+        count: MOST_TESTS,
+    }
 }

@@ -1,6 +1,5 @@
 // A line of output, put together from texts and numbers. Where the writer says which bytes it holds, a call that succeeds adds what it says, and nothing else.
-ghost use Rattle.std.specs.Prelude.{◌≡◌, ◌∷◌, [], OnOk, unsigned_abs};
-ghost use Rattle.std.specs.Fmt.{decimal};
+ghost use Rattle.std.specs.Prelude.{◌∷◌, [], OnOk};
 ghost use Rattle.std.specs.Io.KnownBytes.{Appends};
 ghost use Rattle.bookview.specs.Printed.{spaced, spaced_signed, three, line_of_two, line_of_three};
 
@@ -14,29 +13,11 @@ pub fn put<W: Write>(out: &mut W, text: &[u8]) -> io::Result<()>
     out.write_all(text)
 }
 
-// n in decimal.
-fn put_digits<W: Write>(out: &mut W, n: u64) -> io::Result<()>
-    ensures { OnOk result (Appends (W.contents out.old) (W.contents out.new) (decimal n)) }
-{
-    write!(out, "{n}")
-}
-
 // A space and n in decimal.
 pub fn put_number<W: Write>(out: &mut W, n: u64) -> io::Result<()>
     ensures { OnOk result (Appends (W.contents out.old) (W.contents out.new) (spaced n)) }
 {
-    put(out, b" ")?;
-    put_digits(out, n)
-}
-
-// How far z is from zero. The lowest i64 has no opposite among them, so below zero the opposite of the number above z is taken, and one added.
-fn magnitude(z: i64) -> u64
-    ensures { result ≡ unsigned_abs z }
-{
-    if z < 0 {
-        return ((-1 - z) as u64) + 1;
-    }
-    z as u64
+    write!(out, " {n}")
 }
 
 // Three numbers, each behind a space.
@@ -53,11 +34,7 @@ pub fn put_three<W: Write>(out: &mut W, a: u64, b: u64, c: u64) -> io::Result<()
 pub fn put_signed<W: Write>(out: &mut W, z: i64) -> io::Result<()>
     ensures { OnOk result (Appends (W.contents out.old) (W.contents out.new) (spaced_signed z)) }
 {
-    if z < 0 {
-        put(out, b" -")?;
-        return put_digits(out, magnitude(z));
-    }
-    put_number(out, magnitude(z))
+    write!(out, " {z}")
 }
 
 // Ends the line, and writes it out: who gives one book after the other sees each line before the next is taken in.

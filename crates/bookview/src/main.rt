@@ -7,12 +7,15 @@ mod line;
 ghost use Rattle.std.specs.Prelude.{OnOk};
 ghost use Rattle.std.specs.Io.KnownBytes.{Appends};
 ghost use Rattle.book.specs.declared.record.Test.TheVariants.{Position, Gap};
-ghost use Rattle.bookview.specs.Printed.{bounds, test_line};
+ghost use Rattle.book.specs.Refusals.{number_of};
+ghost use Rattle.bookview.specs.Printed.{bounds, line_of_two, test_line};
 
-use book::reader::{BookAnswer, find_places};
+use book::reader::{Found, find_places};
 use book::record::Test;
-use book::rules::{WordingPlace, test_count, tests_at, wording_place};
+use book::refusal::Refusal;
+use book::rules::{tests_at, wording_place};
 use line::{put, put_number, put_signed, put_three, say, say_three, say_two};
+use numbers::{eight_at, four_at, two_at};
 use std::io;
 use std::io::{BufWriter, Read, Write};
 
@@ -93,117 +96,85 @@ fn show_test<W: Write>(out: &mut W, t: Test) -> io::Result<()>
     }
 }
 
-// The first `count` of the tests.
-fn show_tests<W: Write>(out: &mut W, tests: [Test; 8], count: usize) -> io::Result<()> {
-    for k in 0..8usize {
-        if count <= k {
-            return Ok(());
-        }
-        show_test(out, tests[k])?;
-    }
-    Ok(())
-}
-
 // The condition whose first test would stand at `at`, and its tests.
 fn show_condition<W: Write>(out: &mut W, book: &[u8], at: usize) -> io::Result<()> {
-    let count = test_count(book, at);
-    say_two(out, b"condition", at as u64, count as u64)?;
-    show_tests(out, tests_at(book, at), count)
-}
-
-// A place as an index: a function, because a place read from an array then asks for its index alone.
-fn wide(place: u16) -> usize {
-    place as usize
-}
-
-// `count` conditions of the book, from number `from` on; the number of the one after them.
-fn show_conditions<W: Write>(
-    out: &mut W,
-    book: &[u8],
-    places: [u16; 192],
-    from: usize,
-    count: usize,
-) -> io::Result<usize> {
-    let mut j = from;
-    for _ in 0..count {
-        if 192 <= j {
-            return Ok(j);
-        }
-        show_condition(out, book, wide(places[j]))?;
-        j += 1;
+    let found = tests_at(book, at);
+    say_two(out, b"condition", at as u64, found.count as u64)?;
+    for t in found.tests.iter().take(found.count) {
+        show_test(out, *t)?;
     }
-    Ok(j)
+    Ok(())
 }
 
 // The number of the rule whose record is at `at`.
 fn rule_number(book: &[u8], at: usize) -> u64 {
-    if book.len() < 27 {
+    if book.len() < 27 || book.len() - 27 < at {
         return 0;
     }
-    if book.len() - 27 < at {
-        return 0;
-    }
-    numbers::uint_at(book, at + 1, 2)
+    two_at(book, at + 1) as u64
 }
 
-// The rule whose record is at `place`, and its `count` conditions, from number `from` on; the number of the condition after them.
+// The rule whose record is at `place`, and its conditions.
 fn show_rule<W: Write>(
     out: &mut W,
     book: &[u8],
-    place: u16,
-    count: u8,
-    conditions: [u16; 192],
-    from: usize,
-) -> io::Result<usize> {
-    let number = rule_number(book, place as usize);
-    say_three(out, b"rule", place as u64, number, count as u64)?;
-    show_conditions(out, book, conditions, from, count as usize)
-}
-
-// The rules whose records are at `places`, each with its conditions.
-fn show_rules<W: Write>(
-    out: &mut W,
-    book: &[u8],
-    rules: usize,
-    places: [u16; 32],
-    counts: [u8; 32],
-    conditions: [u16; 192],
+    place: usize,
+    conditions: &[u16],
 ) -> io::Result<()> {
-    let mut from: usize = 0;
-    for i in 0..32usize {
-        if rules <= i {
-            return Ok(());
-        }
-        from = show_rule(out, book, places[i], counts[i], conditions, from)?;
+    let number = rule_number(book, place);
+    say_three(out, b"rule", place as u64, number, conditions.len() as u64)?;
+    for at in conditions {
+        show_condition(out, book, *at as usize)?;
     }
     Ok(())
 }
 
+// The rules that were found, each with its conditions: the first of those that no rule before has.
+fn show_rules<W: Write>(out: &mut W, book: &[u8], found: &Found) -> io::Result<()> {
+    let places = &found.places;
+    let mut left = &places.conditions[..];
+    for (place, count) in places
+        .rules
+        .iter()
+        .zip(&places.counts)
+        .take(found.size.rules)
+    {
+        let (own, rest) = left.split_at(left.len().min(*count as usize));
+        show_rule(out, book, *place as usize, own)?;
+        left = rest;
+    }
+    Ok(())
+}
+
+// A refusal with its place, behind a word.
+fn say_refusal<W: Write>(out: &mut W, word: &[u8], refusal: Refusal) -> io::Result<()>
+    ensures { OnOk result (Appends (W.contents out.old) (W.contents out.new) (line_of_two word.now (number_of refusal.cause) refusal.place)) }
+{
+    say_two(
+        out,
+        word,
+        refusal.cause.number() as u64,
+        refusal.place as u64,
+    )
+}
+
 // The book as it is taken apart, or its refusal.
 fn show_book<W: Write>(out: &mut W, book: &[u8]) -> io::Result<()> {
-    let found = find_places(book);
-    let answer = found.answer;
-    match answer {
-        BookAnswer::Refused { number, place } => say_two(out, b"!", number as u64, place as u64),
-        BookAnswer::Accepted { rules, conditions } => {
-            say_two(out, b"accepted", rules as u64, conditions as u64)?;
-            let places = found.places;
-            let at = places.rules;
-            let counts = places.counts;
-            let first = places.conditions;
-            show_rules(out, book, rules, at, counts, first)
+    match find_places(book) {
+        Err(refusal) => say_refusal(out, b"!", refusal),
+        Ok(found) => {
+            let size = found.size;
+            say_two(out, b"accepted", size.rules as u64, size.conditions as u64)?;
+            show_rules(out, book, &found)
         }
     }
 }
 
 // Where the wording of the rule of that number stands, or the refusal.
 fn show_wording<W: Write>(out: &mut W, book: &[u8], number: u64) -> io::Result<()> {
-    let place = wording_place(book, number);
-    match place {
-        WordingPlace::Refused { number, place } => {
-            say_two(out, b"wording !", number as u64, place as u64)
-        }
-        WordingPlace::At(at) => {
+    match wording_place(book, number) {
+        Err(refusal) => say_refusal(out, b"wording !", refusal),
+        Ok(at) => {
             put(out, b"wording")?;
             put_number(out, at as u64)?;
             say(out)
@@ -237,8 +208,8 @@ fn show_next<R: Read, W: Write>(input: &mut R, out: &mut W) -> io::Result<bool> 
     if input.read_exact(&mut head).is_err() {
         return Ok(false);
     }
-    let length = numbers::uint_at(&head, 0, 4);
-    let number = numbers::uint_at(&head, 4, 8);
+    let length = four_at(&head, 0);
+    let number = eight_at(&head, 4);
     let mut space = [0u8; MOST];
     show_next_book(input, out, &mut space, length as usize, number)
 }

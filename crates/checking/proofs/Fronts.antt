@@ -1,13 +1,14 @@
--- The first n elements of a list, looked at one by one: the same as those of another, all of one kind, or ascending. Assumes nothing.
-use Prim.Native.Nat.{ℕ, zero, suc, ◌-◌, ◌*◌, ◌≤◌, ◌<◌}
+-- Elements of a list, looked at one by one: the first n the same as those of another or all of one kind, and all ascending. Assumes nothing.
+use Prim.Native.Nat.{ℕ, zero, suc, ◌+◌, ◌*◌, ◌≤◌, ◌<◌}
 use mathlib.Core.Path.{◌≡◌, refl, sym, ap, ◌∙◌}
-use mathlib.Core.Bool.{true}
+use mathlib.Core.Bool.{Bool, true, false, false≢true}
 use mathlib.Core.List.{List, [], ◌∷◌, map, Memᴰ}
 use mathlib.Core.Logic.{◌↔◌}
-use native.Mathlib.Numerals.{sub-one}
+use native.Mathlib.Numerals.{add-one}
 use native.Mathlib.Omega.{arith}
 use lib.ListN.{length, take, get_or, get_or-map, length-map}
 use lib.Seq.{ext_get_or, get_or-take, length-take-le}
+use Rattle.std.specs.List.{IsAllAdjacentAnswer}
 use Rattle.numbers.specs.BigEndian.{uint}
 use Rattle.reading.specs.declared.Reading.{Reading}
 use Rattle.reading.specs.Reading.{is_less}
@@ -16,25 +17,18 @@ use Rattle.matching.proofs.Laws.Orders.{rising_sorted}
 use Rattle.matching.proofs.Laws.ReadingOrder.{is_less-order}
 use Rattle.room.specs.Parts.{twos}
 use Rattle.room.proofs.TwosRead.{length-twos, get_or-twos}
+use Rattle.checking.proofs.Answers.{yes, no}
 
--- ---- two lists of which is known how long they are and what stands where
-
-same_known : (n : ℕ) (a b : List ℕ) (at to : ℕ → ℕ) → length a ≡ n → length b ≡ n
-    → ((k : ℕ) → k < n → get_or a k 0 ≡ at k) → ((k : ℕ) → k < n → get_or b k 0 ≡ to k)
-    → (a ≡ b) ↔ ((k : ℕ) → k < n → at k ≡ to k)
-same_known n a b at to la lb ka kb = (
-  λ e k h. sym (ka k h) ∙ ap (λ (l : List ℕ). get_or l k 0) e ∙ kb k h,
-  λ h. ext_get_or 0 a b (la ∙ sym lb) λ k l. let m : k < n = omega arith in ka k m ∙ h k m ∙ sym (kb k m),
-)
-
-pub same_fronts : (n : ℕ) (a b : List ℕ) → n ≤ length a → n ≤ length b → (take n a ≡ take n b) ↔ ((k : ℕ) → k < n → get_or a k 0 ≡ get_or b k 0)
-same_fronts n a b ha hb =
-    same_known n (take n a) (take n b) (λ k. get_or a k 0) (λ k. get_or b k 0) (length-take-le n a ha) (length-take-le n b hb) (λ k h. get_or-take n a k 0 h) (λ k h. get_or-take n b k 0 h)
+-- ---- the same
 
 pub twos_front : (n : ℕ) (table numbers : List ℕ) → n ≤ length numbers → (twos n table ≡ take n numbers) ↔ ((k : ℕ) → k < n → uint 2 table (k * 2) ≡ get_or numbers k 0)
 twos_front n table numbers h =
-    same_known n (twos n table) (take n numbers) (λ k. uint 2 table (k * 2)) (λ k. get_or numbers k 0) (length-twos n table) (length-take-le n numbers h)
-    (get_or-twos n table) (λ k l. get_or-take n numbers k 0 l)
+    let long = length-twos n table in
+    let as_long = length-take-le n numbers h in (
+      λ e k l. sym (get_or-twos n table k l) ∙ ap (λ (s : List ℕ). get_or s k 0) e ∙ get_or-take n numbers k 0 l,
+      λ each. ext_get_or 0 (twos n table) (take n numbers) (long ∙ sym as_long) λ k l.
+          let m : k < n = omega arith in get_or-twos n table k m ∙ each k m ∙ sym (get_or-take n numbers k 0 m),
+    )
 
 -- ---- all of one kind
 
@@ -69,23 +63,16 @@ module _ {A : Type 0} {before : A → A → Type 0} (d : A) where
   sorted_next (first {l = b ∷ l} f p) zero h = f b (Memᴰ.head refl)
   sorted_next (first {l = b ∷ l} f p) (suc k) h = sorted_next p k (omega arith)
 
-module _ (read : ℕ → Reading) (n : ℕ) (l : List ℕ) (h : n ≤ length l) where
-  long_front : length (map read (take n l)) ≡ n
-  long_front = length-map (take n l) read ∙ length-take-le n l h
+-- the answer on each two neighbours says whether all ascend
+module _ (read : ℕ → Reading) (l : List ℕ) where
+  read_next : (k : ℕ) → k + 1 < length l → (is_less (read (get_or l k 0)) (read (get_or l (k + 1) 0)) ≡ true) ↔ Less is_less (get_or (map read l) k (read 0)) (get_or (map read l) (suc k) (read 0))
+  read_next k h =
+      let here : get_or (map read l) k (read 0) ≡ read (get_or l k 0) = get_or-map read l k 0 in
+      let after : get_or (map read l) (suc k) (read 0) ≡ read (get_or l (k + 1) 0) = rw add-one (get_or-map read l (suc k) 0) in
+      (λ e. rw (here, after) e, λ e. rw (here, after) at e)
 
-  read_front : (k : ℕ) → k < n → get_or (map read (take n l)) k (read 0) ≡ read (get_or l k 0)
-  read_front k m = get_or-map read (take n l) k 0 ∙ ap read (get_or-take n l k 0 m)
-
-  pub ascending_front : Sorted (Less is_less) (map read (take n l)) ↔ ((k : ℕ) → k < n → 1 ≤ k → is_less (read (get_or l (k - 1) 0)) (read (get_or l k 0)) ≡ true)
-  ascending_front = (
-    before,
-    λ each. rising_sorted is_less-order.transitive (next_rising (read 0) (map read (take n l)) λ k m.
-        let q : suc k < n = omega (arith, long_front) in
-        let own : k < n = omega arith in
-        rw (read_front k own, read_front (suc k) q) (rw sub-one at (each (suc k) q (omega arith)))),
-  ) where
-    before : Sorted (Less is_less) (map read (take n l)) → (k : ℕ) → k < n → 1 ≤ k → is_less (read (get_or l (k - 1) 0)) (read (get_or l k 0)) ≡ true
-    before up zero m some = absurd (omega arith)
-    before up (suc k) m some =
-        let own : k < n = omega arith in
-        rw (sub-one, ← read_front k own, ← read_front (suc k) m) (sorted_next (read 0) up k (omega (arith, long_front)))
+  pub ascending : (r : Bool) → IsAllAdjacentAnswer (λ a b answer. answer ≡ is_less (read a) (read b)) l r → (r ≡ true) ↔ Sorted (Less is_less) (map read l)
+  ascending true up = yes (rising_sorted is_less-order.transitive (next_rising (read 0) (map read l) λ k h.
+      let next : k + 1 < length l = omega (arith, length-map l read) in
+      (read_next k next).0 (sym (up k 0 next))))
+  ascending false (k, h, down) = no λ sorted. false≢true (down 0 ∙ (read_next k h).1 (sorted_next (read 0) sorted k (omega (arith, length-map l read))))

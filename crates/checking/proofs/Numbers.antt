@@ -4,7 +4,7 @@ use mathlib.Core.Path.{◌≡◌, sym, ap, ◌∙◌}
 use mathlib.Core.Bool.{false}
 use mathlib.Core.List.{List}
 use native.Mathlib.Omega.{arith}
-use lib.ListN.{length, take, drop, replicate, length-replicate}
+use lib.ListN.{length, take, drop}
 use lib.Seq.{take-take}
 use Rattle.numbers.specs.BigEndian.{uint}
 use Rattle.room.specs.Parts.{part}
@@ -56,10 +56,8 @@ module _ (room : List ℕ) (n end conditions : ℕ) (a : Numbered room n end con
   pub conditions_are : sum (counts_in room) ≡ conditions
   conditions_are = a.bounded.total ∙ sym a.conditions
 
-  -- what is asked for a row to be made, with a byte for each of 32 rules twice
-  pub row-asked : (length (part room 8208 384) ≡ 384)
-      × ((length (part room 8656 32) ≡ 32)
-      × ((length {A = ℕ} (replicate 32 0) ≡ 32) × ((length {A = ℕ} (replicate 32 0) ≡ 32) × ((conditions ≤ sum (part room 8656 32)) × (conditions ≤ 192)))))
+  -- what is asked for a row to be made
+  pub row-asked : (length (part room 8208 384) ≡ 384) × ((length (part room 8656 32) ≡ 32) × ((conditions ≤ sum (part room 8656 32)) × (conditions ≤ 192)))
   row-asked =
       let b = a.bounded in
       let told : conditions ≤ sum (part room 8656 32) =
@@ -70,8 +68,5 @@ module _ (room : List ℕ) (n end conditions : ℕ) (a : Numbered room n end con
         ap sum (take-take 32 32 (drop 8656 room) (omega arith)),
       ) in (
         large-part room 8208 384 (omega arith) b.large,
-        (
-          large-part room 8656 32 (omega arith) b.large,
-          (length-replicate {A = ℕ} 32 0, (length-replicate {A = ℕ} 32 0, (told, omega (arith, a.conditions, b.conditions)))),
-        ),
+        (large-part room 8656 32 (omega arith) b.large, (told, omega (arith, a.conditions, b.conditions))),
       )

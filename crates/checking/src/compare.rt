@@ -7,14 +7,7 @@ pub fn same_bytes(a: &[u8], b: &[u8], n: usize) -> bool
     requires { (n ≤ length a.now) × (n ≤ length b.now) }
     ensures { (result ≡ true) ↔ (take n a.now ≡ take n b.now) }
 {
-    let mut i: usize = 0;
-    while i < n {
-        if a[i] != b[i] {
-            return false;
-        }
-        i += 1;
-    }
-    true
+    a[..n] == b[..n]
 }
 
 // Whether the first n numbers of two bytes each are these.
@@ -22,12 +15,10 @@ pub fn same_twos(table: &[u8], numbers: &[u16], n: usize) -> bool
     requires { (n * 2 ≤ length table.now) × ((n ≤ length numbers.now) × (n ≤ 192)) }
     ensures { (result ≡ true) ↔ (twos n table.now ≡ take n numbers.now) }
 {
-    let mut i: usize = 0;
-    while i < n {
-        if numbers::two_at(table, i * 2) != (numbers[i] as usize) {
+    for (i, number) in numbers[..n].iter().enumerate() {
+        if numbers::two_at(table, i * 2) != usize::from(*number) {
             return false;
         }
-        i += 1;
     }
     true
 }

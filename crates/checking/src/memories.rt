@@ -17,12 +17,10 @@ pub fn row_agrees(rows: &[u8], s: usize, row: &[u8], n: usize) -> bool
     requires { (s * 24 + 24 ≤ length rows.now) × ((length row.now ≡ 24) × (n ≤ 192)) }
     ensures { (result ≡ true) ↔ ((c : ℕ) → c < n → in_memory rows.now c s ≡ in_memory row.now c 0) }
 {
-    let mut c: usize = 0;
-    while c < n {
+    for c in 0..n {
         if bit_at(rows, s, c) != bit_at(row, 0, c) {
             return false;
         }
-        c += 1;
     }
     true
 }
@@ -35,26 +33,19 @@ pub fn rows_agree(room: &[u8]) -> bool
     let n = two_at(room, 4);
     let end = BOOK + two_at(room, 8);
     let conditions = two_at(room, 12);
-    let mut i: usize = 0;
-    while i < n {
+    for i in 0..n {
         let s = room[ORDER + i] as usize;
         let w = reading_at(&room[SLOTS..ROWS], s);
-        let mut touched = [0u8; 32];
-        let mut firsts = [0u8; 32];
-        let made = make_row(
+        let row = make_row(
             &room[BOOK..end],
             &room[CONDITION_PLACES..RULE_PLACES],
             &room[RULE_CONDITIONS..ENDS],
-            &mut touched[..],
-            &mut firsts[..],
             conditions,
             w,
         );
-        let row = made.bits;
-        if !row_agrees(&room[ROWS..NODES], s, &row[..], conditions) {
+        if !row_agrees(&room[ROWS..NODES], s, &row.bits, conditions) {
             return false;
         }
-        i += 1;
     }
     true
 }

@@ -11,14 +11,12 @@ pub fn each_once(order: &[u8]) -> bool
     ensures { (result ≡ true) ↔ Once order.now }
 {
     let mut seen = [false; 256];
-    let mut i: usize = 0;
-    while i < order.len() {
-        let s = order[i] as usize;
+    for s in order {
+        let s = usize::from(*s);
         if seen[s] {
             return false;
         }
         seen[s] = true;
-        i += 1;
     }
     true
 }
@@ -28,14 +26,6 @@ pub fn ascend(order: &[u8], slots: &[u8], n: usize) -> bool
     requires { (n ≤ length order.now) × (length slots.now ≡ 3072) }
     ensures { (result ≡ true) ↔ Sorted (Less is_less) (map (reading_at slots.now) (take n order.now)) }
 {
-    let mut i: usize = 1;
-    while i < n {
-        let a = reading_at(slots, order[i - 1] as usize);
-        let b = reading_at(slots, order[i] as usize);
-        if !is_less(a, b) {
-            return false;
-        }
-        i += 1;
-    }
-    true
+    let read = |s: &u8| reading_at(slots, usize::from(*s));
+    order[..n].is_sorted_by(|a, b| is_less(read(a), read(b)))
 }

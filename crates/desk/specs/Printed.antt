@@ -1,8 +1,8 @@
 -- What the program prints, line by line.
-use Rattle.std.specs.Prelude.{ℕ, List, [], ◌∷◌, ◌++◌}
+use Rattle.std.specs.Prelude.{ℕ, List, [], ◌∷◌, ◌++◌, Ok, Err}
 use Rattle.std.specs.Fmt.{decimal}
-use Rattle.malletfrond.specs.declared.StepAnswer.{StepAnswer}
-use Rattle.malletfrond.specs.declared.StepAnswer.TheVariants.{Accepted, Refused}
+use Rattle.book.specs.Refusals.{number_of}
+use Rattle.malletfrond.specs.Answers.{StepAnswer}
 
 -- a space and n in decimal
 abbrev pub spaced : ℕ → List ℕ
@@ -18,5 +18,5 @@ placed_refusal_line number place = (33 ∷ []) ++ spaced number ++ spaced place 
 
 -- the answer to an addition or a removal: the sign and three counts, or the refusal
 abbrev pub answer_line : List ℕ → StepAnswer → List ℕ
-answer_line sign (Accepted readings tokens changed) = sign ++ spaced readings ++ spaced tokens ++ spaced changed ++ (10 ∷ [])
-answer_line sign (Refused number) = refusal_line number
+answer_line sign (Ok to) = sign ++ spaced to.readings ++ spaced to.tokens ++ spaced to.changed ++ (10 ∷ [])
+answer_line sign (Err e) = refusal_line (number_of e.cause)

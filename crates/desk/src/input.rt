@@ -10,12 +10,11 @@ fn read_some<R: Read>(file: &mut R, space: &mut [u8]) -> usize
     file.read(space).unwrap_or(0)
 }
 
-// Fills up behind the first `have` bytes, as far as the file goes; how many there are then.
-pub fn read_rest<R: Read>(file: &mut R, space: &mut [u8], have: usize) -> usize
+// Fills up behind the first `have` bytes, as far as the file goes; how many there are then. A read gives as many bytes as it likes, so the turns are no count.
+pub fn read_rest<R: Read>(file: &mut R, space: &mut [u8], mut have: usize) -> usize
     requires { have ≤ length space.old }
     ensures { result ≤ length space.old }
 {
-    let mut have = have;
     while have < space.len() {
         let more = read_some(file, &mut space[have..]);
         if more == 0 {
@@ -32,11 +31,6 @@ pub fn refill<R: Read>(file: &mut R, space: &mut [u8], at: usize, have: usize) -
     requires have_in_bounds { have ≤ length space.old }
     ensures { result ≤ length space.old }
 {
-    let left = have - at;
-    let mut n: usize = 0;
-    while n < left {
-        space[n] = space[at + n];
-        n += 1;
-    }
-    read_rest(file, space, left)
+    space.copy_within(at..have, 0);
+    read_rest(file, space, have - at)
 }

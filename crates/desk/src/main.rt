@@ -7,10 +7,11 @@ mod steps;
 
 ghost use Rattle.std.specs.Prelude.{◌≤◌, length, IfOk, OnOk};
 ghost use Rattle.std.specs.Io.KnownBytes.{Appends};
+ghost use Rattle.book.specs.Refusals.{number_of};
 ghost use Rattle.desk.specs.Printed.{placed_refusal_line};
 
+use book::refusal::{Cause, Refusal};
 use input::read_rest;
-use malletfrond::OpenAnswer;
 use out::{SPACE, flush, put, put_number};
 use std::io::{BufWriter, Read, Write};
 use std::{fs, io};
@@ -34,12 +35,12 @@ struct Begun<F> {
 }
 
 // A refusal with its place is all that is printed.
-fn refuse<W: Write>(out: &mut W, number: u8, place: usize) -> io::Result<()>
-    ensures { OnOk result (Appends (W.contents out.old) (W.contents out.new) (placed_refusal_line number place)) }
+fn refuse<W: Write>(out: &mut W, refusal: Refusal) -> io::Result<()>
+    ensures { OnOk result (Appends (W.contents out.old) (W.contents out.new) (placed_refusal_line (number_of refusal.cause) refusal.place)) }
 {
     put(out, b"!")?;
-    put_number(out, number as u64)?;
-    put_number(out, place as u64)?;
+    put_number(out, refusal.cause.number() as u64)?;
+    put_number(out, refusal.place as u64)?;
     put(out, b"\n")?;
     flush(out)
 }
@@ -55,14 +56,9 @@ fn serve<R: Read, W: Write>(
     requires { have ≤ length chunk.old }
 {
     let mut room = [0u8; ROOM];
-    let answer = malletfrond::open(&mut room, book, READINGS, TOKENS);
-    match answer {
-        OpenAnswer::Refused { number, place } => refuse(out, number, place),
-        OpenAnswer::Opened {
-            readings: _,
-            tokens: _,
-            complete: _,
-        } => run(&mut room, file, chunk, have, out),
+    match malletfrond::open(&mut room, book, READINGS, TOKENS) {
+        Ok(_) => run(&mut room, file, chunk, have, out),
+        Err(refusal) => refuse(out, refusal),
     }
 }
 
@@ -95,6 +91,12 @@ fn main(rt: HostRuntime) -> io::Result<()> {
                 &mut out,
             )
         }
-        _ => refuse(&mut out, 18, 0),
+        _ => {
+            let unread = Refusal {
+                cause: Cause::NoSuchFile,
+                place: 0,
+            };
+            refuse(&mut out, unread)
+        }
     }
 }

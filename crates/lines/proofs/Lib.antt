@@ -6,3 +6,4 @@ pub mod Rising
 pub mod Rules
 pub mod Steady
 pub mod Walk
+pub mod Putting

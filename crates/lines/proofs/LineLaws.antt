@@ -20,6 +20,7 @@ use Rattle.matching.specs.Lists.{concat_map}
 use Rattle.matching.proofs.Laws.Lists.{concat_map-append, concat_map-one}
 use Rattle.reading.specs.declared.Reading.{Reading}
 use Rattle.reading.specs.contracts.Reading.{the_type}
+use Rattle.std.specs.Prelude.{None, Some}
 use Rattle.lines.specs.Line.{entry, entries, trimmed, ending, line_text, length_in, text_in}
 
 -- ---- lengths
@@ -115,10 +116,10 @@ module _ (wording : List ℕ) (n : ℕ) (some : 0 < n) (h : n ≤ length wording
 -- ---- a text in a buffer
 
 module _ (buffer text : List ℕ) where
-  pub in_short : length buffer < length text → (length_in buffer text ≡ 0) × (text_in buffer text ≡ buffer)
+  pub in_short : length buffer < length text → (length_in buffer text ≡ None) × (text_in buffer text ≡ buffer)
   unfolding length_in text_in
   in_short h = let e = lt-ltb (length buffer) (length text) h in (simp e, simp e)
 
-  pub in_fits : length text ≤ length buffer → (length_in buffer text ≡ length text) × (text_in buffer text ≡ spliced buffer 0 text)
+  pub in_fits : length text ≤ length buffer → (length_in buffer text ≡ Some (length text)) × (text_in buffer text ≡ spliced buffer 0 text)
   unfolding length_in text_in
   in_fits h = let e = le-ltb (length buffer) (length text) h in (simp e, simp e)

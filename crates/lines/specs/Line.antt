@@ -1,5 +1,5 @@
 -- A complaint as a line of bytes. Assumes nothing: these are definitions.
-use Rattle.std.specs.Prelude.{ℕ, cond, ◌&&◌, List, [], ◌∷◌, ◌++◌, eqb, ltb, length}
+use Rattle.std.specs.Prelude.{ℕ, cond, ◌&&◌, List, [], ◌∷◌, ◌++◌, eqb, ltb, length, Option, Some, None}
 use Rattle.numbers.specs.Digits.{digits}
 use Rattle.numbers.specs.Spliced.{spliced}
 use Rattle.matching.specs.Lists.{concat_map}
@@ -25,9 +25,9 @@ ending wording = 32 ∷ 124 ∷ (trimmed wording ++ 10 ∷ [])
 unfoldable pub line_text : ℕ → List Reading → List ℕ → List ℕ
 line_text number readings wording = digits number ++ (entries readings ++ ending wording)
 
--- a text written at the front of a buffer, if the buffer has place for it; else nothing is written, and the length is 0
-unfoldable pub length_in : List ℕ → List ℕ → ℕ
-length_in buffer text = cond (ltb (length buffer) (length text)) 0 (length text)
+-- a text written at the front of a buffer, if the buffer has place for it: its length; else nothing is written
+unfoldable pub length_in : List ℕ → List ℕ → Option ℕ
+length_in buffer text = cond (ltb (length buffer) (length text)) None (Some (length text))
 
 unfoldable pub text_in : List ℕ → List ℕ → List ℕ
 text_in buffer text = cond (ltb (length buffer) (length text)) buffer (spliced buffer 0 text)

@@ -5,18 +5,15 @@ ghost use Rattle.lines.specs.Line.{entry, entries, trimmed, ending, line_text, l
 
 use numbers::put_digits;
 use reading::Reading;
-use room::write::copy_at;
 
 // How many bytes of a wording stand before its trailing spaces.
 pub fn trimmed_length(wording: &[u8]) -> usize
     ensures { (take result wording.now ≡ trimmed wording.now) × (result ≤ length wording.now) }
 {
-    let mut n = wording.len();
-    while 0 < n {
-        if wording[n - 1] != 32 {
-            return n;
+    for last in (0..wording.len()).rev() {
+        if wording[last] != 32 {
+            return last + 1;
         }
-        n -= 1;
     }
     0
 }
@@ -38,16 +35,14 @@ pub fn put_entry(free: &mut [u8], r: Reading) -> usize
     at
 }
 
-// The entries of the first n readings.
-pub fn put_entries(free: &mut [u8], readings: [Reading; 6], n: usize) -> usize
-    requires { (n ≤ 6) × (length (entries (take n readings)) ≤ length free.old) }
-    ensures { (result ≡ length (entries (take n readings))) × (free.new ≡ spliced free.old 0 (entries (take n readings))) }
+// The entries of some readings.
+pub fn put_entries(free: &mut [u8], readings: &[Reading]) -> usize
+    requires { length (entries readings.now) ≤ length free.old }
+    ensures { (result ≡ length (entries readings.now)) × (free.new ≡ spliced free.old 0 (entries readings.now)) }
 {
     let mut at: usize = 0;
-    let mut i: usize = 0;
-    while i < n {
-        at += put_entry(&mut free[at..], readings[i]);
-        i += 1;
+    for r in readings {
+        at += put_entry(&mut free[at..], *r);
     }
     at
 }
@@ -59,15 +54,11 @@ pub fn put_ending(free: &mut [u8], wording: &[u8], n: usize)
 {
     free[0] = 32;
     free[1] = 124;
-    let mut i: usize = 0;
-    while i < n {
-        free[2 + i] = wording[i];
-        i += 1;
-    }
+    free[2..2 + n].copy_from_slice(&wording[..n]);
     free[2 + n] = 10;
 }
 
-// The line at the front of a buffer that has place for it; its length, or 0 where the buffer has none: then nothing is written. It is put together aside, as no line is longer
+// The line at the front of a buffer that has place for it; its length, or none where the buffer has no place: then nothing is written. It is put together aside, as no line is longer
 // than 230 bytes, and copied where it fits.
 pub fn put_line(
     buffer: &mut [u8],
@@ -75,19 +66,19 @@ pub fn put_line(
     readings: [Reading; 6],
     n: usize,
     wording: &[u8],
-) -> usize
+) -> Option<usize>
     requires { (number < 65536) × ((n ≤ 6) × (length wording.now ≤ 24)) }
     ensures { (result ≡ length_in buffer.old (line_text number (take n readings) wording.now)) × ((buffer.new ≡ text_in buffer.old (line_text number (take n readings) wording.now)) × (length (line_text number (take n readings) wording.now) ≤ 230)) }
 {
     let shown = trimmed_length(wording);
     let mut text = [0u8; 230];
     let mut at = put_digits(&mut text[..], number);
-    at += put_entries(&mut text[at..], readings, n);
+    at += put_entries(&mut text[at..], &readings[..n]);
     put_ending(&mut text[at..], wording, shown);
     let total = at + shown + 3;
     if buffer.len() < total {
-        return 0;
+        return None;
     }
-    copy_at(buffer, 0, &text[..], total);
-    total
+    buffer[..total].copy_from_slice(&text[..total]);
+    Some(total)
 }

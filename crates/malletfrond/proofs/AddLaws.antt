@@ -7,6 +7,9 @@ use mathlib.Core.List.{List, Memᴰ}
 use native.Mathlib.Omega.{arith}
 use borrow.Author.Tests.{le-leb, lt-leb, lt-ltb, le-ltb}
 use lib.ListN.{length}
+use Rattle.std.specs.Prelude.{Err}
+use Rattle.book.specs.declared.refusal.Cause.TheVariants.{AlreadyPresent, TooManyReadings, TooManyTokens}
+use Rattle.book.specs.Refusals.{refusal}
 use Rattle.reading.specs.declared.Reading.{Reading}
 use Rattle.reading.specs.Reading.{is_less}
 use Rattle.matching.specs.Complaints.{book_count, complaints}
@@ -22,9 +25,8 @@ use Rattle.room.proofs.BrokenLaws.{not_broken-whole}
 use Rattle.row.specs.Row.{stands_at}
 use Rattle.weave.proofs.Grown.{le_or_lt}
 use Rattle.step.specs.Worked.{AddedAt}
-use Rattle.malletfrond.specs.declared.StepAnswer.TheVariants as a
 use Rattle.sound.specs.Sound.{Sound, state_of}
-use Rattle.malletfrond.specs.Answers.{refusals}
+use Rattle.malletfrond.specs.Answers.{changed_to, refusals}
 use Rattle.malletfrond.specs.Promise.{Steps}
 use Rattle.sound.proofs.Adding.{adding_over, adding_next}
 use Rattle.sound.proofs.AnswerLaws.{appeared}
@@ -38,17 +40,17 @@ use Rattle.malletfrond.proofs.StepLaws.{steps-refused, steps-accepted}
 -- ---- the step on values, case by case
 
 module _ (s : State) (w : Reading) where
-  added_11 : present s w ≡ true → stepped s (add w) ≡ refuse s 11
+  added_11 : present s w ≡ true → stepped s (add w) ≡ refuse s AlreadyPresent
   unfolding stepped added
   added_11 e = rw e
 
   module _ (new : present s w ≡ false) where
-    added_13 : s.E ≤ length s.readings → stepped s (add w) ≡ refuse s 13
+    added_13 : s.E ≤ length s.readings → stepped s (add w) ≡ refuse s TooManyReadings
     unfolding stepped added
     added_13 h = rw (new, le-leb s.E (length s.readings) h)
 
     module _ (free : length s.readings < s.E) where
-      added_14 : s.T < book_count s.book (more s w) → stepped s (add w) ≡ refuse s 14
+      added_14 : s.T < book_count s.book (more s w) → stepped s (add w) ≡ refuse s TooManyTokens
       unfolding stepped added
       added_14 h = rw (new, lt-leb s.E (length s.readings) free, lt-ltb s.T (book_count s.book (more s w)) h)
 
@@ -74,15 +76,15 @@ module _ (room : List ℕ) (w : Reading) {p : ℕ} (place : Sound room → p ≡
   pub is-present : (s : Sound room) (b : Bool) → stands room w p ≡ b → present (state_of room s) w ≡ b
   is-present s b e = sym (stands-present room s w) ∙ rw (place s) at e
 
-  pub adds_present : stands room w p ≡ true → Steps room (add w) (a.Refused 11) room
+  pub adds_present : stands room w p ≡ true → Steps room (add w) (Err (refusal AlreadyPresent 0)) room
   unfolding refusals
-  adds_present e = steps-refused room (add w) 11 whole (mathlib.Core.List.Memᴰ.head refl) (λ s. added_11 (state_of room s) w (is-present s true e))
+  adds_present e = steps-refused room (add w) AlreadyPresent whole (mathlib.Core.List.Memᴰ.head refl) (λ s. added_11 (state_of room s) w (is-present s true e))
 
   module _ (new : stands room w p ≡ false) where
-    pub adds_full : head_number room 0 ≤ head_number room 2 → Steps room (add w) (a.Refused 13) room
+    pub adds_full : head_number room 0 ≤ head_number room 2 → Steps room (add w) (Err (refusal TooManyReadings 0)) room
     unfolding refusals held
     adds_full h =
-        steps-refused room (add w) 13 whole (mathlib.Core.List.Memᴰ.tail (mathlib.Core.List.Memᴰ.head refl))
+        steps-refused room (add w) TooManyReadings whole (mathlib.Core.List.Memᴰ.tail (mathlib.Core.List.Memᴰ.head refl))
         (λ s. added_13 (state_of room s) w (is-present s false new) (omega (arith, present_many room whole)))
 
     module _ (free : head_number room 2 < head_number room 0) {tokens complete : ℕ} {room' : List ℕ} (at : AddedAt room p w tokens complete room') (fits : Fits w) where
@@ -109,14 +111,14 @@ module _ (room : List ℕ) (w : Reading) {p : ℕ} (place : Sound room → p ≡
             (λ (over : limit room < book_count s.rules with_it). absurd (omega (arith, adding_over room s w (is-present s false new) free (place s) at over)))
             (le_or_lt (book_count s.rules with_it) (limit room))
 
-      pub adds_over : limit room < tokens → Steps room (add w) (a.Refused 14) room'
+      pub adds_over : limit room < tokens → Steps room (add w) (Err (refusal TooManyTokens 0)) room'
       unfolding refusals held
       adds_over h =
           rw (at.full h)
-          (steps-refused room (add w) 14 whole (mathlib.Core.List.Memᴰ.tail (mathlib.Core.List.Memᴰ.tail (mathlib.Core.List.Memᴰ.head refl)))
+          (steps-refused room (add w) TooManyTokens whole (mathlib.Core.List.Memᴰ.tail (mathlib.Core.List.Memᴰ.tail (mathlib.Core.List.Memᴰ.head refl)))
           (λ s. added_14 (state_of room s) w (is-present s false new) (free_is s) (over-is s h)))
 
-      pub adds_accepted : tokens ≤ limit room → Steps room (add w) (a.Accepted (head_number room 2 + 1) tokens (complete - complete_of room)) room'
+      pub adds_accepted : tokens ≤ limit room → Steps room (add w) (changed_to (head_number room 2 + 1) tokens (complete - complete_of room)) room'
       unfolding held
       adds_accepted h =
           steps-accepted room room' (add w) (head_number room 2 + 1) tokens (complete - complete_of room) at.aside _ _ complete whole (at.written h) at.long

@@ -2,11 +2,12 @@
 -- each row has the bits that its reading tells, and its tokens are those that its rules build. So the check's yes is proved, and its no. Assumes nothing.
 use Prim.Native.Nat.{ℕ}
 use mathlib.Core.Path.{◌≡◌, refl, sym, ap, ◌∙◌, subst}
-use mathlib.Core.Bool.{Bool, true, false, false≢true}
+use mathlib.Core.Bool.{Bool, true, false, not, false≢true}
 use mathlib.Core.Logic.{◌↔◌}
 use mathlib.Core.List.{List, [], map}
 use native.Mathlib.Nat.{zero-add}
 use native.Mathlib.Omega.{arith}
+use borrow.Author.Tests.{not-true, not-false}
 use lib.Dec.{eqb, lit≤}
 use lib.ListN.{take, get_or}
 use Rattle.numbers.specs.BigEndian.{uint}
@@ -138,15 +139,27 @@ module _ (room : List ℕ) where
 
   -- ---- the answer
 
-  checks_no : (Sound room → ⊥) → Checks room false
-  checks_no never = record { exact = (λ e. absurd (false≢true e), λ s. absurd (never s)) }
+  -- a yes so far says that the room has all that was asked, a no that it is not sound
+  pub record Asked (asked : Bool) (P : Type 0) : Type 0 where
+    pub yes : asked ≡ true → P
+    pub no : asked ≡ false → Sound room → ⊥
 
-  pub checks_broken : broken room ≡ true → Checks room false
-  checks_broken h = checks_no (λ s. false≢true (sym s.whole ∙ h))
+  pub asked_whole : {b : Bool} → b ≡ broken room → Asked (not b) (broken room ≡ false)
+  asked_whole {b} is = record { yes = λ e. sym is ∙ not-true b e; no = λ e s. false≢true (sym s.whole ∙ sym is ∙ not-false b e) }
 
-  -- what a sound room has, asked and answered by no
-  pub checks_lacking : {P : Type 0} {r : Bool} → r ≡ false → (r ≡ true) ↔ P → (Sound room → P) → Checks room false
-  checks_lacking is asked has = checks_no (λ s. false≢true (sym is ∙ asked.1 (has s)))
+  -- what a sound room has, asked after a yes; and not asked any more after a no
+  pub asked_more : {a r v : Bool} {P Q : Type 0} → Asked a P → a ≡ true → (r ≡ true) ↔ Q → (Sound room → Q) → v ≡ r → Asked v (P × Q)
+  asked_more before e asked has is =
+      record {
+        yes = λ t. (before.yes e, asked.0 (sym is ∙ t));
+        no = λ f s. false≢true (sym f ∙ is ∙ asked.1 (has s));
+      }
+
+  pub asked_less : {a v : Bool} {P Q : Type 0} → Asked a P → a ≡ false → v ≡ a → Asked v Q
+  asked_less before e is = record { yes = λ t. absurd (false≢true (sym e ∙ sym is ∙ t)); no = λ f. before.no e }
+
+  pub checks_no : {a : Bool} {P : Type 0} → Asked a P → a ≡ false → Checks room a
+  checks_no before e = record { exact = (λ t. absurd (false≢true (sym e ∙ t)), λ s. absurd (before.no e s)) }
 
   -- the readings asked after by their number, as it is read
   pub rises-read : {n : ℕ} {r : Bool} → n ≡ uint 2 room 4 → (r ≡ true) ↔ Sorted (Less is_less) (map (reading_at (part room 9072 3072)) (take n (part room 8816 256)))
@@ -154,8 +167,11 @@ module _ (room : List ℕ) where
   rises-read read asked = rw (number_read room 2 (lit≤ tt) read) at asked
 
   -- the tokens asked last: their answer is the check's
-  pub checks_yes : broken room ≡ false → Indexed room → Once (order_part (parts room)) → Rises room → RowsAgree room → (r : Bool) → (r ≡ true) ↔ Rebuilt room → Checks room r
-  checks_yes whole i once rises rows r built = record { exact = (λ e. checked_sound whole i once rises rows (built.0 e), λ s. built.1 (sound_rebuilt s)) }
+  pub checks_yes : {a r : Bool} → Asked a (((broken room ≡ false × Indexed room) × (Once (order_part (parts room)) × Rises room)) × RowsAgree room) → a ≡ true → (r ≡ true) ↔ Rebuilt room
+      → Checks room r
+  checks_yes before e built =
+      let p = before.yes e in
+      record { exact = (λ t. checked_sound p.0.0.0 p.0.0.1 p.0.1.0 p.0.1.1 p.1 (built.0 t), λ s. built.1 (sound_rebuilt s)) }
 
 -- two answers that checking allows: of one room, whatever it holds; and of two sound rooms
 pub checks_same : (room : List ℕ) (a b : Bool) → Checks room a → Checks room b → a ≡ b

@@ -8,6 +8,8 @@ use mathlib.Core.List.Memᴰ
 use mathlib.Core.List.{List, [], ◌∷◌, Memᴰ}
 use native.Mathlib.Omega.{arith}
 use lib.ListN.{length, drop}
+use Rattle.std.specs.Prelude.{Result, Ok, Err}
+use Rattle.book.specs.declared.refusal.Refusal.{Refusal}
 use Rattle.book.specs.Rules.{Rule}
 use Rattle.book.specs.Limits.{All, Kept}
 use Rattle.book.proofs.Limits.{read_kept}
@@ -23,40 +25,36 @@ use Rattle.matching.proofs.Laws.ReadingOrder.{is_same-exact}
 use Rattle.matching.proofs.Laws.Steps.{opened_settled, readings_unique, added-accepted}
 use Rattle.room.specs.Held.{Held, held}
 use Rattle.row.proofs.OrderLaws.{mem_at}
-use Rattle.malletfrond.specs.declared.StepAnswer.{StepAnswer}
-use Rattle.malletfrond.specs.declared.StepAnswer.TheVariants as a
-use Rattle.malletfrond.specs.declared.LineAnswer.{LineAnswer}
-use Rattle.malletfrond.specs.declared.LineAnswer.TheVariants as l
 use Rattle.sound.specs.Sound.{Sound, held_of, state_of}
-use Rattle.malletfrond.specs.Answers.{step_answer, complaint_line, complaint_at}
+use Rattle.malletfrond.specs.Answers.{StepAnswer, LineAnswer, changed_to, step_answer, complaint_line, complaint_at}
 use Rattle.malletfrond.specs.Promise.{Steps, Lines}
 use Rattle.malletfrond.specs.Runs.{Call, step, counts, line, check, Reply, Allowed, Event, Run, ended, then, reply_in, state_after, is_accepted, after, replayed}
-use Rattle.malletfrond.specs.Demand.{line_refused, is_refused, buffer_of, buffer_left, line_length, written, Untouched, Narrow, NarrowCall, Reached, Listed}
+use Rattle.malletfrond.specs.Demand.{has_refused, is_refused, buffer_of, buffer_left, line_length, written, Untouched, Narrow, NarrowCall, Reached, Listed}
 use Rattle.malletfrond.proofs.RunLaws.{opens_state, allowed_reply, calls_of, states_after, events_in, run_sound, run_state, run_replies, run-book}
 use Rattle.malletfrond.proofs.RunLaws.{states_keep, states_settled, Present, replayed-present}
 use Rattle.malletfrond.proofs.LineLengths.{line-written, line-none, length-line}
 use Rattle.sound.proofs.SoundLaws.{sound-same}
 use Rattle.sound.proofs.SoundRoom.{sound_kept}
-use Rattle.malletfrond.proofs.StepLaws.{accepted_not_refused}
+use Rattle.malletfrond.proofs.StepLaws.{changed_same}
 
 -- ---- what no call changes
 
-refused-answer : (answer : StepAnswer) → not (is_accepted answer) ≡ true → (number : ℕ) × (answer ≡ a.Refused number)
-unfolding is_accepted
-refused-answer (a.Accepted readings tokens changed) e = absurd (false≢true e)
-refused-answer (a.Refused number) e = (number, refl)
+refused-answer : {A : Type 0} (answer : Result A Refusal) → has_refused answer ≡ true → (r : Refusal) × (answer ≡ Err r)
+unfolding has_refused
+refused-answer (Ok x) e = absurd (false≢true e)
+refused-answer (Err r) e = (r, refl)
 
 -- what a line leaves of the buffer, by its answer
 record Left (answer : LineAnswer) (buffer buffer' : List ℕ) : Type 0 where
-  pub refused : line_refused answer ≡ true → buffer' ≡ buffer
+  pub refused : has_refused answer ≡ true → buffer' ≡ buffer
   pub behind : drop (line_length answer) buffer' ≡ drop (line_length answer) buffer
   pub short : line_length answer ≤ 230
 
 line_left : (room : List ℕ) (k : ℕ) (buffer : List ℕ) (answer : LineAnswer) (buffer' : List ℕ) → Lines room k buffer answer buffer' → Left answer buffer buffer'
-unfolding line_refused line_length
-line_left room k buffer (l.Written n) buffer' p = record { refused = λ e. absurd (false≢true e); behind = p.after n refl; short = (p.most n refl).0 }
-line_left room k buffer (l.Refused number) buffer' p =
-    let same : buffer' ≡ buffer = p.untouched number refl in
+unfolding has_refused line_length
+line_left room k buffer (Ok n) buffer' p = record { refused = λ e. absurd (false≢true e); behind = p.after n refl; short = (p.most n refl).0 }
+line_left room k buffer (Err r) buffer' p =
+    let same : buffer' ≡ buffer = p.untouched r refl in
     record { refused = λ e. same; behind = same; short = omega arith }
 
 pub allowed_untouched : (room : List ℕ) (call : Call) (reply : Reply call) (room' : List ℕ) → Allowed room call reply room' → Untouched room call reply room'
@@ -192,10 +190,10 @@ runs_same s s' same p q calls = run_replies p s ∙ ap₂ events_in same calls �
 
 -- ---- added and removed again
 
-accepted-is : (x : Answer) (n t c : ℕ) → a.Accepted n t c ≡ step_answer x → x ≡ v.accepted n t c
+accepted-is : (x : Answer) (n t c : ℕ) → changed_to n t c ≡ step_answer x → x ≡ v.accepted n t c
 unfolding step_answer
-accepted-is (v.accepted n' t' c') n t c e = cc
-accepted-is (v.refused number) n t c e = absurd (accepted_not_refused n t c number e)
+accepted-is (v.accepted n' t' c') n t c e = let same = changed_same e in let a : n ≡ n' = same.0 in let b : t ≡ t' = same.1.0 in let d : c ≡ c' = same.1.1 in cc
+accepted-is (v.refused cause) n t c e = cc
 
 -- on values
 stepped_again : (s : State) (w : Reading) (n t c : ℕ) → Kept s.book → (stepped s (add w)).answer ≡ v.accepted n t c → (stepped (stepped s (add w)).next (remove w)).next ≡ s
@@ -207,11 +205,11 @@ stepped_again s w n t c k e =
 
 -- a reading that is added and removed again leaves a room that holds what it held before
 pub room_again : {book : List ℕ} {rules : List Rule} {E T : ℕ} {events : List Event} {last : List ℕ} → Reached book rules E T events last → (w : Reading) (n t c : ℕ) (room : List ℕ)
-    → Steps last (add w) (a.Accepted n t c) room → (answer : StepAnswer) (room' : List ℕ) → Steps room (remove w) answer room' → held room' ≡ held last
+    → Steps last (add w) (changed_to n t c) room → (answer : StepAnswer) (room' : List ℕ) → Steps room (remove w) answer room' → held room' ≡ held last
 unfolding state_after
 room_again {last = last} r w n t c room p answer room' q =
     let s : Sound last = reached-sound r in
-    let run : Run last ((step (add w), a.Accepted n t c) ∷ ((step (remove w), answer) ∷ [])) room' = then p (then q ended) in
+    let run : Run last ((step (add w), changed_to n t c) ∷ ((step (remove w), answer) ∷ [])) room' = then p (then q ended) in
     let s' : Sound room' = run_sound run s in
     let state : state_of room' s' ≡ state_of last s =
     run_state run s s' ∙ stepped_again (state_of last s) w n t c (sound_kept last s) (accepted-is (stepped (state_of last s) (add w)).answer n t c (p.answered s)) in

@@ -4,12 +4,13 @@ use mathlib.Core.Path.{◌≡◌}
 use mathlib.Core.Bool.{false}
 use mathlib.Core.List.{List, map}
 use lib.ListN.{length, drop}
+use Rattle.std.specs.Prelude.{Err}
+use Rattle.book.specs.declared.refusal.Refusal.{Refusal}
 use Rattle.book.specs.Rules.{Rule}
 use Rattle.reading.specs.declared.Reading.{Reading}
 use Rattle.room.specs.Layout.{formula}
 use Rattle.room.specs.Held.{held}
-use Rattle.malletfrond.specs.declared.OpenAnswer.{OpenAnswer}
-use Rattle.malletfrond.specs.declared.OpenAnswer.TheVariants as o
+use Rattle.malletfrond.specs.Answers.{CountsAnswer}
 use Rattle.malletfrond.specs.Promise.{Opens}
 use Rattle.malletfrond.specs.Runs.{Call, Reply, Allowed, Event, Run, replayed}
 use Rattle.malletfrond.specs.Demand.{Untouched, Reached, Exact, Listed}
@@ -17,8 +18,8 @@ use Rattle.malletfrond.proofs.DemandLaws.{allowed_untouched, reached-sound, reac
 use Rattle.malletfrond.proofs.DemandLaws.{reached_listed, reached-same, runs_same}
 
 -- demand 1: a refusal changes no lent byte, and nothing past the formula, and nothing of a buffer behind the line, ever changes
-pub demand_1 : ((room book : List ℕ) (E T : ℕ) (answer : OpenAnswer) (room' : List ℕ) → Opens room book E T answer room'
-    → ((number place : ℕ) → answer ≡ o.Refused number place → room' ≡ room) × (drop (formula E T) room' ≡ drop (formula E T) room) × (length room' ≡ length room))
+pub demand_1 : ((room book : List ℕ) (E T : ℕ) (answer : CountsAnswer) (room' : List ℕ) → Opens room book E T answer room'
+    → ((e : Refusal) → answer ≡ Err e → room' ≡ room) × (drop (formula E T) room' ≡ drop (formula E T) room) × (length room' ≡ length room))
     × ((room : List ℕ) (call : Call) (reply : Reply call) (room' : List ℕ) → Allowed room call reply room' → Untouched room call reply room')
 demand_1 = (λ room book E T answer room' p. (p.untouched, p.past, p.long), allowed_untouched)
 

@@ -6,6 +6,9 @@ use mathlib.Core.Bool.{true, false≢true}
 use mathlib.Core.List.{List, [], ◌∷◌, cons≢nil}
 use native.Mathlib.Omega.{arith}
 use lib.ListN.{length, get_or}
+use Rattle.std.specs.Prelude.{Ok, Err}
+use Rattle.book.specs.declared.refusal.Cause.TheVariants.{RoomBroken, NoSuchComplaint}
+use Rattle.book.specs.Refusals.{refusal}
 use Rattle.numbers.specs.Digits.{digits, digits_to}
 use Rattle.numbers.specs.Spliced.{spliced}
 use Rattle.book.specs.Books.{any_pair, book_b, rule_b}
@@ -23,20 +26,15 @@ use Rattle.matching.specs.Complaints.{Matched, matched_by, pass_of, book_count, 
 use Rattle.matching.specs.Step.{State, add, remove, added, removed, stepped, opened, with_readings}
 use Rattle.room.specs.Held.{Held, held}
 use Rattle.lines.specs.Line.{entry, trimmed, ending, line_text}
-use Rattle.malletfrond.specs.declared.OpenAnswer.TheVariants as o
-use Rattle.malletfrond.specs.declared.StepAnswer.{StepAnswer}
-use Rattle.malletfrond.specs.declared.StepAnswer.TheVariants as a
-use Rattle.malletfrond.specs.declared.CountsAnswer.{CountsAnswer}
-use Rattle.malletfrond.specs.declared.CountsAnswer.TheVariants as c
-use Rattle.malletfrond.specs.declared.LineAnswer.{LineAnswer}
-use Rattle.malletfrond.specs.declared.LineAnswer.TheVariants as l
 use Rattle.sound.specs.Sound.{Sound, state_of}
-use Rattle.malletfrond.specs.Answers.{step_answer, complaint_line}
+use Rattle.malletfrond.specs.Answers.{CountsAnswer, StepAnswer, LineAnswer, counted, changed_to, step_answer, complaint_line}
 use Rattle.malletfrond.specs.Promise.{Opens}
-use Rattle.malletfrond.specs.Runs.{step, counts, line, check, Event, Run, reply_in, state_after, is_accepted}
-use Rattle.malletfrond.specs.Demand.{is_refused}
+use Rattle.malletfrond.specs.Runs.{step, counts, line, check, Event, Run, reply_in, state_after}
+use Rattle.malletfrond.specs.Demand.{has_refused, is_refused}
+use Rattle.malletfrond.proofs.CallLaws.{counted_same}
 use Rattle.malletfrond.proofs.LineLengths.{line-written, line-none}
 use Rattle.malletfrond.proofs.RunLaws.{calls_of, events_in, opens_state, run_sound, run_state, run_replies}
+use Rattle.malletfrond.proofs.StepLaws.{changed_same}
 
 -- ---- the program and its replies
 
@@ -77,15 +75,15 @@ pair x y = matched_by rule_b (x ∷ y ∷ [])
 abbrev pub answered : List ℕ → Replies
 answered buffer =
     record {
-      added_one = a.Accepted 1 2 1;
-      counted_one = c.Counted 1 2 1;
-      line_one = (l.Written 24, spliced buffer 0 (complaint_line (pair one one)));
-      added_two = a.Accepted 2 6 3;
-      counted_two = c.Counted 2 6 4;
-      line_two = (l.Written 24, spliced buffer 0 (complaint_line (pair one two)));
-      no_line = (l.Refused 16, buffer);
-      removed_one = a.Accepted 1 2 3;
-      counted_back = c.Counted 1 2 1;
+      added_one = changed_to 1 2 1;
+      counted_one = counted 1 2 1;
+      line_one = (Ok 24, spliced buffer 0 (complaint_line (pair one one)));
+      added_two = changed_to 2 6 3;
+      counted_two = counted 2 6 4;
+      line_two = (Ok 24, spliced buffer 0 (complaint_line (pair one two)));
+      no_line = (Err (refusal NoSuchComplaint 0), buffer);
+      removed_one = changed_to 1 2 3;
+      counted_back = counted 1 2 1;
     }
 
 -- book B opened with E = 256 and T = 2,048
@@ -97,12 +95,12 @@ record Computed : Type 0 where
   pub next_one : (stepped start (add one)).next ≡ with_readings start (one ∷ [])
   pub next_two : (stepped (with_readings start (one ∷ [])) (add two)).next ≡ with_readings start (one ∷ two ∷ [])
   pub next_back : (stepped (with_readings start (one ∷ two ∷ [])) (remove one)).next ≡ with_readings start (two ∷ [])
-  pub added_one : reply_in start (step (add one)) ≡ a.Accepted 1 2 1
-  pub counted_one : reply_in (with_readings start (one ∷ [])) counts ≡ c.Counted 1 2 1
-  pub added_two : reply_in (with_readings start (one ∷ [])) (step (add two)) ≡ a.Accepted 2 6 3
-  pub counted_two : reply_in (with_readings start (one ∷ two ∷ [])) counts ≡ c.Counted 2 6 4
-  pub removed_one : reply_in (with_readings start (one ∷ two ∷ [])) (step (remove one)) ≡ a.Accepted 1 2 3
-  pub counted_back : reply_in (with_readings start (two ∷ [])) counts ≡ c.Counted 1 2 1
+  pub added_one : reply_in start (step (add one)) ≡ changed_to 1 2 1
+  pub counted_one : reply_in (with_readings start (one ∷ [])) counts ≡ counted 1 2 1
+  pub added_two : reply_in (with_readings start (one ∷ [])) (step (add two)) ≡ changed_to 2 6 3
+  pub counted_two : reply_in (with_readings start (one ∷ two ∷ [])) counts ≡ counted 2 6 4
+  pub removed_one : reply_in (with_readings start (one ∷ two ∷ [])) (step (remove one)) ≡ changed_to 1 2 3
+  pub counted_back : reply_in (with_readings start (two ∷ [])) counts ≡ counted 1 2 1
   pub listed_one : complaints (rule_b ∷ []) (one ∷ []) ≡ pair one one ∷ []
   pub listed_two : complaints (rule_b ∷ []) (one ∷ two ∷ []) ≡ pair one one ∷ pair one two ∷ pair two one ∷ pair two two ∷ []
 
@@ -155,21 +153,21 @@ module _ (buffer : List ℕ) (long : 230 ≤ length buffer) where
 -- the replies read off the events
 step_reply : Event → StepAnswer
 step_reply (step x, reply) = reply
-step_reply (counts, reply) = a.Refused 0
-step_reply (line k buffer, reply) = a.Refused 0
-step_reply (check, reply) = a.Refused 0
+step_reply (counts, reply) = Err (refusal RoomBroken 0)
+step_reply (line k buffer, reply) = Err (refusal RoomBroken 0)
+step_reply (check, reply) = Err (refusal RoomBroken 0)
 
 counts_reply : Event → CountsAnswer
-counts_reply (step x, reply) = c.Refused 0
+counts_reply (step x, reply) = Err (refusal RoomBroken 0)
 counts_reply (counts, reply) = reply
-counts_reply (line k buffer, reply) = c.Refused 0
-counts_reply (check, reply) = c.Refused 0
+counts_reply (line k buffer, reply) = Err (refusal RoomBroken 0)
+counts_reply (check, reply) = Err (refusal RoomBroken 0)
 
 line_reply : Event → LineAnswer × List ℕ
-line_reply (step x, reply) = (l.Refused 0, [])
-line_reply (counts, reply) = (l.Refused 0, [])
+line_reply (step x, reply) = (Err (refusal RoomBroken 0), [])
+line_reply (counts, reply) = (Err (refusal RoomBroken 0), [])
 line_reply (line k buffer, reply) = reply
-line_reply (check, reply) = (l.Refused 0, [])
+line_reply (check, reply) = (Err (refusal RoomBroken 0), [])
 
 replies_of : List Event → Replies
 replies_of events =
@@ -186,7 +184,7 @@ replies_of events =
       counted_back = counts_reply (at 8);
     }
 
-module _ (lent room : List ℕ) (opens : Opens lent book_b 256 2048 (o.Opened 0 0 0) room) (buffer : List ℕ) (long : 230 ≤ length buffer) (r : Replies) (last : List ℕ)
+module _ (lent room : List ℕ) (opens : Opens lent book_b 256 2048 (counted 0 0 0) room) (buffer : List ℕ) (long : 230 ≤ length buffer) (r : Replies) (last : List ℕ)
     (run : Run room (program buffer r) last) where
   sound : Sound room
   sound = opens.sound refl
@@ -201,19 +199,19 @@ module _ (lent room : List ℕ) (opens : Opens lent book_b 256 2048 (o.Opened 0 
 
   -- one that refuses everything
   pub refuses_everything : ¬ All (λ (e : Event). is_refused e.0 e.1 ≡ true) (program buffer r)
-  unfolding is_refused is_accepted
+  unfolding is_refused has_refused
   refuses_everything all = false≢true (rw replies at all.0)
 
   -- one whose steps, counts or lines have a constant reply
   pub constant_reply : ¬ (r.added_one ≡ r.added_two) × ¬ (r.counted_one ≡ r.counted_two) × ¬ (r.line_two.0 ≡ r.no_line.0)
   constant_reply = rw replies (
-    λ (e : a.Accepted 1 2 1 ≡ a.Accepted 2 6 3). let z : ◌≡◌ {A = ℕ} 1 2 = cc in omega arith,
-    λ (e : c.Counted 1 2 1 ≡ c.Counted 2 6 4). let z : ◌≡◌ {A = ℕ} 1 2 = cc in omega arith,
-    λ (e : l.Written 24 ≡ l.Refused 16). let z : ◌≡◌ {A = ℕ} 0 1 = cc in omega arith,
+    λ (e : changed_to 1 2 1 ≡ changed_to 2 6 3). let z : ◌≡◌ {A = ℕ} 1 2 = (changed_same e).0 in omega arith,
+    λ (e : counted 1 2 1 ≡ counted 2 6 4). let z : ◌≡◌ {A = ℕ} 1 2 = (counted_same e).0 in omega arith,
+    λ e. cc,
   )
 
   -- one that does no work: it leaves what it found, or counts nothing
-  pub does_no_work : ¬ (held last ≡ held room) × ¬ (r.counted_one ≡ c.Counted 0 0 0)
+  pub does_no_work : ¬ (held last ≡ held room) × ¬ (r.counted_one ≡ counted 0 0 0)
   unfolding state_after
   does_no_work = (
     λ same.
@@ -221,7 +219,7 @@ module _ (lent room : List ℕ) (opens : Opens lent book_b 256 2048 (o.Opened 0 
         let s' : Sound last = run_sound run sound in
         let end : state_of last s' ≡ with_readings start (two ∷ []) = run_state run sound s' ∙ rw (state, k.next_one, k.next_two, k.next_back) in
         cons≢nil (sym (ap (λ (s : State). s.readings) end) ∙ ap (λ (h : Held). h.readings) same ∙ ap (λ (s : State). s.readings) state),
-    rw replies (λ (e : c.Counted 1 2 1 ≡ c.Counted 0 0 0). let z : ◌≡◌ {A = ℕ} 0 1 = cc in omega arith),
+    rw replies (λ (e : counted 1 2 1 ≡ counted 0 0 0). let z : ◌≡◌ {A = ℕ} 1 0 = (counted_same e).0 in omega arith),
   )
 
   -- one that matches at the first step and afterwards repeats it: the first line again, or the first answer at the last step
@@ -231,10 +229,10 @@ module _ (lent room : List ℕ) (opens : Opens lent book_b 256 2048 (o.Opened 0 
         let same = ap (λ (x : LineAnswer × List ℕ). get_or x.1 12 0) e in
         let z : ◌≡◌ {A = ℕ} 50 49 = sym (lines-apart buffer).1 ∙ same ∙ (lines-apart buffer).0 in
         omega arith,
-    λ (e : a.Accepted 1 2 3 ≡ a.Accepted 1 2 1). let z : ◌≡◌ {A = ℕ} 3 1 = cc in omega arith,
+    λ (e : changed_to 1 2 3 ≡ changed_to 1 2 1). let z : ◌≡◌ {A = ℕ} 3 1 = (changed_same e).1.1 in omega arith,
   )
 
   -- one that invents its token count
-  pub invents_a_token : ((readings tokens changed : ℕ) → r.added_two ≡ a.Accepted readings tokens changed → tokens ≡ 6)
-      × ((readings tokens complete : ℕ) → r.counted_two ≡ c.Counted readings tokens complete → tokens ≡ 6)
-  invents_a_token = rw replies (λ readings tokens changed e. cc, λ readings tokens complete e. cc)
+  pub invents_a_token : ((readings tokens changed : ℕ) → r.added_two ≡ changed_to readings tokens changed → tokens ≡ 6)
+      × ((readings tokens complete : ℕ) → r.counted_two ≡ counted readings tokens complete → tokens ≡ 6)
+  invents_a_token = rw replies (λ readings tokens changed e. sym (changed_same e).1.0, λ readings tokens complete e. sym (counted_same e).1.0)

@@ -2,14 +2,18 @@
 -- that it allows are the same. Assumes nothing.
 use Prim.Native.Nat.{ℕ, ◌+◌, ◌-◌, ◌*◌, ◌≤◌, ◌<◌}
 use mathlib.Core.Path.{◌≡◌, refl, sym, ap, ap₂, ◌∙◌}
-use mathlib.Core.Bool.{Bool, true, false, false≢true}
+use mathlib.Core.Bool.{true, false, false≢true}
 use mathlib.Core.Logic.{⊎_elim}
 use mathlib.Core.List.Memᴰ
 use mathlib.Core.List.{List, [], ◌∷◌, Memᴰ}
 use native.Mathlib.Omega.{arith}
 use borrow.Author.Tests.{lt-ltb, le-ltb}
 use lib.Dec.{lit≤}
-use lib.ListN.{length, take, drop, length-append, length-take}
+use lib.ListN.{length, take, drop, length-take}
+use Rattle.std.specs.Prelude.{Option, Some, None, Ok, Err, ok_or}
+use Rattle.book.specs.declared.refusal.Cause.TheVariants.{RoomBroken, BufferTooShort, NoSuchComplaint}
+use Rattle.book.specs.declared.refusal.Refusal.{Refusal}
+use Rattle.book.specs.Refusals.{refusal}
 use Rattle.numbers.specs.BigEndian.{uint}
 use Rattle.numbers.specs.Spliced.{spliced}
 use Rattle.numbers.proofs.Spliced.{drop-spliced, length-spliced}
@@ -24,76 +28,65 @@ use Rattle.room.proofs.Large.{large-part}
 use Rattle.step.proofs.Lending.{in_room}
 use Rattle.weave.proofs.Grown.{le_or_lt}
 use Rattle.lines.specs.Found.{ComplaintAt}
-use Rattle.lines.specs.Line.{ending, line_text, length_in, text_in}
-use Rattle.malletfrond.specs.declared.LineAnswer.{LineAnswer}
-use Rattle.malletfrond.specs.declared.LineAnswer.TheVariants as l
+use Rattle.lines.specs.Line.{line_text, length_in, text_in}
 use Rattle.sound.specs.Sound.{Sound}
-use Rattle.malletfrond.specs.Answers.{complaint_line, complaint_at, line_answer, line_buffer}
+use Rattle.malletfrond.specs.Answers.{LineAnswer, complaint_line, complaint_at, line_answer, line_buffer}
 use Rattle.malletfrond.specs.Promise.{Lines}
 use Rattle.malletfrond.proofs.Finding.{complaints_in, found_complaint, found_text}
 use Rattle.sound.proofs.SoundLaws.{sound-rules, sound_complete}
 
--- a line written is not one refused
-written_not_refused : (n number : ℕ) → l.Written n ≡ l.Refused number → ⊥
-written_not_refused n number e = let z : ◌≡◌ {A = ℕ} 0 1 = cc in omega arith
-
 -- ---- a refusal
 
 module _ (room : List ℕ) (k : ℕ) (buffer : List ℕ) where
-  pub lines-broken : broken room ≡ true → Lines room k buffer (l.Refused 10) buffer
+  pub lines-broken : broken room ≡ true → Lines room k buffer (Err (refusal RoomBroken 0)) buffer
   lines-broken h =
       let never : broken room ≡ false → ⊥ = λ f. false≢true (sym f ∙ h) in
       record {
         refused_10 = λ t. refl;
-        numbered = λ number f e. absurd (never f);
-        untouched = λ number e. refl;
+        numbered = λ r f e. absurd (never f);
+        untouched = λ r e. refl;
         answered = λ s. absurd (never s.whole);
         wrote = λ s. absurd (never s.whole);
-        most = λ n e. absurd (written_not_refused n 10 (sym e));
+        most = λ n e. cc;
         after = λ n e. refl;
         long = refl;
       }
 
-  lines-refused : (number : ℕ) → broken room ≡ false → Memᴰ number (16 ∷ 15 ∷ [])
-      → ((s : Sound room) → (line_answer (complaints_in room s) k buffer ≡ l.Refused number) × (line_buffer (complaints_in room s) k buffer ≡ buffer))
-      → Lines room k buffer (l.Refused number) buffer
-  lines-refused number whole one same =
+  lines-refused : (e : Refusal) → broken room ≡ false → Memᴰ e (refusal NoSuchComplaint 0 ∷ refusal BufferTooShort 0 ∷ [])
+      → ((s : Sound room) → (line_answer (complaints_in room s) k buffer ≡ Err e) × (line_buffer (complaints_in room s) k buffer ≡ buffer))
+      → Lines room k buffer (Err e) buffer
+  lines-refused e whole one same =
       record {
         refused_10 = λ t. absurd (false≢true (sym whole ∙ t));
-        numbered = λ n f e. let is : n ≡ number = cc in Memᴰ.cast is one;
-        untouched = λ n e. refl;
+        numbered = λ r f q. let is : r ≡ e = cc in Memᴰ.cast is one;
+        untouched = λ r q. refl;
         answered = λ s. sym (same s).0;
         wrote = λ s. sym (same s).1;
-        most = λ n e. absurd (written_not_refused n number (sym e));
-        after = λ n e. refl;
+        most = λ n q. cc;
+        after = λ n q. refl;
         long = refl;
       }
 
   -- no complaint k
-  pub lines_none : broken room ≡ false → complete_of room ≤ k → Lines room k buffer (l.Refused 16) buffer
+  pub lines_none : broken room ≡ false → complete_of room ≤ k → Lines room k buffer (Err (refusal NoSuchComplaint 0)) buffer
   unfolding line_answer line_buffer
-  lines_none whole h = lines-refused 16 whole (Memᴰ.head refl) (λ s.
+  lines_none whole h = lines-refused (refusal NoSuchComplaint 0) whole (Memᴰ.head refl) (λ s.
       let past = le-ltb k (length (complaints_in room s)) (omega (arith, sound_complete room s)) in
       (simp past, simp past))
 
   -- a room that counts a complaint k where none is found is not sound
   pub lines_lost : {rule count : ℕ} {readings : List Reading} → broken room ≡ false → k < complete_of room → ComplaintAt room k false rule count readings
-      → Lines room k buffer (l.Refused 16) buffer
-  lines_lost {rule} {count} {readings} whole h c = lines-refused 16 whole (Memᴰ.head refl)
+      → Lines room k buffer (Err (refusal NoSuchComplaint 0)) buffer
+  lines_lost {rule} {count} {readings} whole h c = lines-refused (refusal NoSuchComplaint 0) whole (Memᴰ.head refl)
       (λ s. absurd (false≢true (found_complaint room s k false rule count readings c (omega (arith, sound_complete room s))).0))
 
   -- nor is one where the record of the complaint's rule goes past the book's part
   pub lines-beyond : {rule count : ℕ} {readings : List Reading} → broken room ≡ false → ComplaintAt room k true rule count readings
-      → 8208 < 16 + uint 2 (rule_places_part (parts room)) (rule * 2) + 27 → Lines room k buffer (l.Refused 16) buffer
-  lines-beyond {rule} whole c h = lines-refused 16 whole (Memᴰ.head refl)
+      → 8208 < 16 + uint 2 (rule_places_part (parts room)) (rule * 2) + 27 → Lines room k buffer (Err (refusal NoSuchComplaint 0)) buffer
+  lines-beyond {rule} whole c h = lines-refused (refusal NoSuchComplaint 0) whole (Memᴰ.head refl)
       (λ s. absurd (let t = found_text room s rule (uint 2 (rule_places_part (parts room)) (rule * 2)) (c.rule_in refl) refl in omega arith))
 
 -- ---- what is lent of a room that is not broken, to read the record of the complaint's rule
-
--- a complaint by what was answered on whether there is one
-pub complaint_as : {room : List ℕ} {k : ℕ} {found answer : Bool} {rule count : ℕ} {readings : List Reading} → found ≡ answer → ComplaintAt room k found rule count readings
-    → ComplaintAt room k answer rule count readings
-complaint_as is c = rw is at c
 
 -- there are 32 rules at most, and a place for each
 module _ {room : List ℕ} {k : ℕ} {rule count : ℕ} {readings : List Reading} (whole : broken room ≡ false) (c : ComplaintAt room k true rule count readings) where
@@ -113,33 +106,24 @@ wording-short room place = simp length-take (omega arith)
 
 -- ---- a line put in a buffer
 
--- it ends in a newline, so it is never empty
-line_text-some : (number : ℕ) (readings : List Reading) (wording : List ℕ) → 1 ≤ length (line_text number readings wording)
-unfolding line_text ending
-line_text-some number readings wording = simp length-append (omega arith)
-
 -- complaint k of a list is there, and this is its line
 abbrev Says : List Matched → ℕ → List ℕ → Type 0
 Says list k text = (k < length list) × (complaint_line (complaint_at list k) ≡ text)
 
 module _ (list : List Matched) (k : ℕ) (buffer text : List ℕ) (is : Says list k text) where
-  line-short : length buffer < length text → (line_answer list k buffer ≡ l.Refused 15) × (line_buffer list k buffer ≡ buffer)
+  line-short : length buffer < length text → (line_answer list k buffer ≡ Err (refusal BufferTooShort 0)) × (line_buffer list k buffer ≡ buffer)
   unfolding line_answer line_buffer text_in
   line-short short =
       let there = lt-ltb k (length list) is.0 in
       let over = lt-ltb (length buffer) (length text) short in
       (simp (there, is.1, over), simp (there, is.1, over))
 
-  line-fits : length text ≤ length buffer → (line_answer list k buffer ≡ l.Written (length text)) × (line_buffer list k buffer ≡ spliced buffer 0 text)
+  line-fits : length text ≤ length buffer → (line_answer list k buffer ≡ Ok (length text)) × (line_buffer list k buffer ≡ spliced buffer 0 text)
   unfolding line_answer line_buffer text_in
   line-fits fits =
       let there = lt-ltb k (length list) is.0 in
       let under = le-ltb (length buffer) (length text) fits in
       (simp (there, is.1, under), simp (there, is.1, under))
-
--- the answer by how long the line is that was put, 0 where there was no place for it
-abbrev pub Put : List ℕ → ℕ → List ℕ → ℕ → List ℕ → Type 0
-Put room k buffer n buffer' = (n ≡ 0 → Lines room k buffer (l.Refused 15) buffer') × (¬ (n ≡ 0) → Lines room k buffer (l.Written n) buffer')
 
 -- complaint k as it is found, its rule's number and wording as they stand in the stored book, in a buffer that has place for the line or not
 module _ {room : List ℕ} {k : ℕ} {rule count : ℕ} {readings : List Reading} (whole : broken room ≡ false) (h : k < complete_of room) (c : ComplaintAt room k true rule count readings)
@@ -159,35 +143,30 @@ module _ {room : List ℕ} {k : ℕ} {rule count : ℕ} {readings : List Reading
             ∙ sym says,
       )
 
-  pub lines-put : (buffer : List ℕ) (n : ℕ) (buffer' : List ℕ) → length text ≤ 230 → n ≡ length_in buffer text → buffer' ≡ text_in buffer text
-      → Put room k buffer n buffer'
+  pub lines-put : (buffer : List ℕ) (n : Option ℕ) (buffer' : List ℕ) → length text ≤ 230 → n ≡ length_in buffer text → buffer' ≡ text_in buffer text
+      → Lines room k buffer (ok_or n (refusal BufferTooShort 0)) buffer'
   unfolding length_in text_in
   lines-put buffer n buffer' most count_is put = ⊎_elim
       (λ (fits : length text ≤ length buffer).
       let under = le-ltb (length buffer) (length text) fits in
-      let all : n ≡ length text = count_is ∙ simp under in
+      let all : n ≡ Some (length text) = count_is ∙ simp under in
       let written : buffer' ≡ spliced buffer 0 text = put ∙ simp under in
-      let some : 1 ≤ length text = rw says (line_text-some number (take count readings) wording) in (
-        λ z. absurd (omega arith),
-        λ nz. rw (all, written) (record {
-          refused_10 = λ t. absurd (false≢true (sym whole ∙ t));
-          numbered = λ m f e. absurd (written_not_refused (length text) m e);
-          untouched = λ m e. absurd (written_not_refused (length text) m e);
-          answered = λ s. sym (line-fits (complaints_in room s) k buffer text (sound_says s) fits).0;
-          wrote = λ s. sym (line-fits (complaints_in room s) k buffer text (sound_says s) fits).1;
-          most = λ m e. let is : length text ≡ m = cc in (omega arith, omega arith);
-          after = λ m e. let is : length text ≡ m = cc in drop-spliced buffer 0 text (omega arith) m (omega arith);
-          long = length-spliced buffer 0 text (omega arith);
-        }),
-      ))
+      rw (all, written) (record {
+        refused_10 = λ t. absurd (false≢true (sym whole ∙ t));
+        numbered = λ r f e. cc;
+        untouched = λ r e. cc;
+        answered = λ s. sym (line-fits (complaints_in room s) k buffer text (sound_says s) fits).0;
+        wrote = λ s. sym (line-fits (complaints_in room s) k buffer text (sound_says s) fits).1;
+        most = λ m e. let is : length text ≡ m = cc in (omega arith, omega arith);
+        after = λ m e. let is : length text ≡ m = cc in drop-spliced buffer 0 text (omega arith) m (omega arith);
+        long = length-spliced buffer 0 text (omega arith);
+      }))
       (λ (short : length buffer < length text).
       let over = lt-ltb (length buffer) (length text) short in
-      let none : n ≡ 0 = count_is ∙ simp over in
-      let kept : buffer' ≡ buffer = put ∙ simp over in (
-        λ z. rw kept (lines-refused room k buffer 15 whole (Memᴰ.tail (Memᴰ.head refl))
-            (λ s. line-short (complaints_in room s) k buffer text (sound_says s) short)),
-        λ nz. absurd (nz none),
-      ))
+      let none : n ≡ None = count_is ∙ simp over in
+      let kept : buffer' ≡ buffer = put ∙ simp over in
+      rw (none, kept) (lines-refused room k buffer (refusal BufferTooShort 0) whole (Memᴰ.tail (Memᴰ.head refl))
+      (λ s. line-short (complaints_in room s) k buffer text (sound_says s) short)))
       (le_or_lt (length text) (length buffer))
 
 -- ---- two results are the same
@@ -205,4 +184,4 @@ lines_same room other k buffer x y buffer' buffer'' s s' same p q =
 -- of a broken room: the same answer, and no byte is changed
 pub lines-once : (room : List ℕ) (k : ℕ) (buffer : List ℕ) (x y : LineAnswer) (buffer' buffer'' : List ℕ) → broken room ≡ true
     → Lines room k buffer x buffer' → Lines room k buffer y buffer'' → (x ≡ y) × (buffer' ≡ buffer) × (buffer'' ≡ buffer)
-lines-once room k buffer x y buffer' buffer'' h p q = (p.refused_10 h ∙ sym (q.refused_10 h), p.untouched 10 (p.refused_10 h), q.untouched 10 (q.refused_10 h))
+lines-once room k buffer x y buffer' buffer'' h p q = (p.refused_10 h ∙ sym (q.refused_10 h), p.untouched _ (p.refused_10 h), q.untouched _ (q.refused_10 h))

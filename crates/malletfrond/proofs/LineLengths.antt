@@ -10,6 +10,9 @@ use native.Mathlib.Omega.{arith}
 use borrow.Author.Tests.{lt-ltb, le-ltb}
 use lib.Dec.{eqb}
 use lib.ListN.{length, get_or, length-append}
+use Rattle.std.specs.Prelude.{Ok, Err}
+use Rattle.book.specs.declared.refusal.Cause.TheVariants.{NoSuchComplaint}
+use Rattle.book.specs.Refusals.{refusal}
 use Rattle.numbers.specs.Spliced.{spliced}
 use Rattle.numbers.proofs.BigEndian.{uint-below}
 use Rattle.numbers.proofs.Digits.{length_digits_16}
@@ -27,7 +30,6 @@ use Rattle.matching.specs.Step.{State}
 use Rattle.matching.proofs.Laws.Complaints.{mem_complaints}
 use Rattle.lines.specs.Line.{entry, entries, trimmed, text_in}
 use Rattle.lines.proofs.LineLaws.{length-entry-most, length-line_text}
-use Rattle.malletfrond.specs.declared.LineAnswer.TheVariants as l
 use Rattle.malletfrond.specs.Answers.{complaint_line, complaint_at, line_answer, line_buffer}
 use Rattle.malletfrond.specs.Runs.{line, reply_in}
 use Rattle.malletfrond.specs.Demand.{Narrow}
@@ -36,11 +38,11 @@ use Rattle.malletfrond.specs.Demand.{Narrow}
 
 module _ (s : State) (list : List Matched) (is : complaints s.book s.readings ≡ list) (k : ℕ) (buffer : List ℕ) where
   pub line-written : k < length list → length (complaint_line (complaint_at list k)) ≤ length buffer
-      → reply_in s (line k buffer) ≡ (l.Written (length (complaint_line (complaint_at list k))), spliced buffer 0 (complaint_line (complaint_at list k)))
+      → reply_in s (line k buffer) ≡ (Ok (length (complaint_line (complaint_at list k))), spliced buffer 0 (complaint_line (complaint_at list k)))
   unfolding reply_in line_answer line_buffer text_in
   line-written h fits = rw (is, lt-ltb k (length list) h, le-ltb (length buffer) (length (complaint_line (complaint_at list k))) fits)
 
-  pub line-none : length list ≤ k → reply_in s (line k buffer) ≡ (l.Refused 16, buffer)
+  pub line-none : length list ≤ k → reply_in s (line k buffer) ≡ (Err (refusal NoSuchComplaint 0), buffer)
   unfolding reply_in line_answer line_buffer
   line-none h = rw (is, le-ltb k (length list) h)
 

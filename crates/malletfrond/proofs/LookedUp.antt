@@ -3,14 +3,15 @@
 use Prim.Native.Nat.{ℕ, ◌+◌, ◌-◌, ◌≤◌, ◌<◌}
 use mathlib.Core.Path.{◌≡◌, sym, ◌∙◌}
 use mathlib.Core.Bool.{Bool, true, false}
-use mathlib.Core.List.{List, map}
+use mathlib.Core.List.{List}
 use native.Mathlib.Omega.{arith}
 use lib.Dec.{lit≤}
-use lib.ListN.{length, take}
+use lib.ListN.{length}
+use Rattle.std.specs.Prelude.{Err}
+use Rattle.book.specs.declared.refusal.Cause.TheVariants.{AlreadyPresent, NotPresent, TooManyReadings, TooManyTokens}
+use Rattle.book.specs.Refusals.{refusal}
 use Rattle.numbers.specs.BigEndian.{uint}
 use Rattle.reading.specs.declared.Reading.{Reading}
-use Rattle.reading.specs.Reading.{is_less, reading_at}
-use Rattle.matching.specs.Order.{Less, Sorted}
 use Rattle.matching.specs.Step.{add, remove}
 use Rattle.room.specs.Broken.{broken}
 use Rattle.room.specs.Held.{held, complete_of}
@@ -18,20 +19,20 @@ use Rattle.room.specs.Layout.{head_number, limit, parts, order_part, slots_part}
 use Rattle.room.specs.Parts.{part}
 use Rattle.room.proofs.BrokenLaws.{Whole, not_broken-whole}
 use Rattle.room.proofs.Large.{large-part}
-use Rattle.row.specs.Row.{leading, lesser, stands_at}
 use Rattle.step.specs.Worked.{AddedAt, RemovedAt}
 use Rattle.step.proofs.Lending.{in_room, number_read}
-use Rattle.malletfrond.specs.declared.StepAnswer.TheVariants as a
 use Rattle.sound.specs.Sound.{Sound}
+use Rattle.malletfrond.specs.Answers.{changed_to}
+use Rattle.malletfrond.specs.Looked.{LookedUp}
 use Rattle.malletfrond.specs.Promise.{Steps}
-use Rattle.malletfrond.proofs.AddLaws.{stands, adds_full, adds_over, adds_accepted}
+use Rattle.malletfrond.proofs.AddLaws.{stands, adds_present, adds_full, adds_over, adds_accepted}
 use Rattle.sound.proofs.Ranks.{rank_in, stands-there}
 use Rattle.sound.proofs.ReadBack.{Fits}
-use Rattle.malletfrond.proofs.RemoveLaws.{removes_accepted}
+use Rattle.malletfrond.proofs.RemoveLaws.{removes_absent, removes_accepted}
 
 module _ (room : List ℕ) (whole : broken room ≡ false) {n : ℕ} (read : n ≡ uint 2 room 4) where
   -- the readings present, as they are read
-  many_read : n ≡ head_number room 2
+  pub many_read : n ≡ head_number room 2
   many_read = number_read room 2 (lit≤ tt) read
 
   -- the order and the slots are lent long enough for a reading to be looked up
@@ -41,60 +42,51 @@ module _ (room : List ℕ) (whole : broken room ≡ false) {n : ℕ} (read : n �
       let large : 18288 ≤ length room = in_room room whole (lit≤ tt) in
       (omega (arith, many_read, large-part room 8816 256 (lit≤ tt) large), large-part room 9072 3072 (lit≤ tt) large)
 
--- the number of readings and whether w stands at the place are those of the room; the place is up to that number, and the rank of w if the room is sound
-pub record LookedUp (room : List ℕ) (w : Reading) (n p : ℕ) (found : Bool) : Type 0 where
-  pub whole : broken room ≡ false
-  pub n_is : n ≡ head_number room 2
-  pub p_is : Sound room → p ≡ rank_in room w
-  pub within : p ≤ n
-  pub found_is : stands room w p ≡ found
+-- what was looked up of a reading, in a room that is not broken
+module _ {room : List ℕ} {w : Reading} {n p : ℕ} {found : Bool} (whole : broken room ≡ false) (k : LookedUp room w n p found) where
+  -- the place is the reading's, if the room is sound
+  is_rank : Sound room → p ≡ rank_in room w
+  unfolding held
+  is_rank s = (rw k.many at k.rank) s.ascending
 
-pub looked_up : (room : List ℕ) (w : Reading) (whole : broken room ≡ false) {n p : ℕ} {found : Bool} → n ≡ uint 2 room 4
-    → (p ≤ n) × (Sorted (Less is_less) (map (reading_at (part room 9072 3072)) (take n (part room 8816 256))) → p ≡ leading (lesser (part room 9072 3072) w) (take n (part room 8816 256)))
-    → found ≡ stands_at (part room 8816 256) (part room 9072 3072) n p w
-    → LookedUp room w n p found
-unfolding held
-looked_up room w whole {n} {p} read rank found =
-    let n_is : n ≡ head_number room 2 = many_read room whole read in
-    record {
-      whole = whole;
-      n_is = n_is;
-      p_is = λ s. (rw n_is at rank.1) s.ascending;
-      within = rank.0;
-      found_is = sym (rw n_is at found);
-    }
+  is_found : stands room w p ≡ found
+  is_found = sym (rw k.many at k.stands)
 
-module _ {room : List ℕ} {w : Reading} {n p : ℕ} {found : Bool} (k : LookedUp room w n p found) where
-  -- ---- a reading that was found, and is taken out
+  -- ---- a reading that was found, and is not added, or is taken out
 
   module _ (old : found ≡ true) where
+    pub adds_old : Steps room (add w) (Err (refusal AlreadyPresent 0)) room
+    adds_old = adds_present room w is_rank whole (is_found ∙ old)
+
     -- it stands among those present
     pub found-low : p < head_number room 2
-    found-low = (stands-there (slots_part (parts room)) w (order_part (parts room)) (head_number room 2) p (k.found_is ∙ old)).0
+    found-low = (stands-there (slots_part (parts room)) w (order_part (parts room)) (head_number room 2) p (is_found ∙ old)).0
 
     pub removes_found : {tokens complete before changed : ℕ} {room' : List ℕ} → RemovedAt room p tokens complete room' → before ≡ complete_of room → changed ≡ before - complete
-        → Steps room (remove w) (a.Accepted (n - 1) tokens changed) room'
-    removes_found at b c = rw (k.n_is, c, b) (removes_accepted room w k.p_is k.whole (k.found_is ∙ old) at)
+        → Steps room (remove w) (changed_to (n - 1) tokens changed) room'
+    removes_found at b c = rw (k.many, c, b) (removes_accepted room w is_rank whole (is_found ∙ old) at)
 
-  -- ---- a reading that was not found, and is added where there is a slot for it
+  -- ---- a reading that was not found, and is not taken out, or is added where there is a slot for it
 
-  module _ (new : found ≡ false) {E : ℕ} (read : E ≡ uint 2 room 0) where
-    E-read : E ≡ head_number room 0
-    E-read = number_read room 0 (lit≤ tt) read
+  module _ (new : found ≡ false) where
+    pub removes_new : Steps room (remove w) (Err (refusal NotPresent 0)) room
+    removes_new = removes_absent room w is_rank whole (is_found ∙ new)
 
-    pub adds_no_slot : E ≤ n → Steps room (add w) (a.Refused 13) room
-    adds_no_slot h = adds_full room w k.p_is k.whole (k.found_is ∙ new) (omega (arith, E-read))
+    module _ {E : ℕ} (read : E ≡ uint 2 room 0) where
+      E-read : E ≡ head_number room 0
+      E-read = number_read room 0 (lit≤ tt) read
 
-    module _ (free : n < E) where
-      pub slot_free : head_number room 2 < head_number room 0
-      slot_free = omega (arith, E-read)
+      pub adds_no_slot : E ≤ n → Steps room (add w) (Err (refusal TooManyReadings 0)) room
+      adds_no_slot h = adds_full room w is_rank whole (is_found ∙ new) (omega (arith, E-read, k.many))
 
-      module _ (fits : Fits w) {T : ℕ} (limit-read : T ≡ uint 2 room 2) {tokens complete : ℕ} {room' : List ℕ} (at : AddedAt room p w tokens complete room') where
-        T-read : T ≡ limit room
-        T-read = number_read room 1 (lit≤ tt) limit-read
+      module _ (free : n < E) where
+        pub slot_free : head_number room 2 < head_number room 0
+        slot_free = omega (arith, E-read, k.many)
 
-        pub adds_too_many : T < tokens → Steps room (add w) (a.Refused 14) room'
-        adds_too_many h = adds_over room w k.p_is k.whole (k.found_is ∙ new) slot_free at fits (omega (arith, T-read))
+        module _ (fits : Fits w) {tokens complete : ℕ} {room' : List ℕ} (at : AddedAt room p w tokens complete room') where
+          pub adds_too_many : limit room < tokens → Steps room (add w) (Err (refusal TooManyTokens 0)) room'
+          adds_too_many = adds_over room w is_rank whole (is_found ∙ new) slot_free at fits
 
-        pub adds_new : {before changed : ℕ} → tokens ≤ T → before ≡ complete_of room → changed ≡ complete - before → Steps room (add w) (a.Accepted (n + 1) tokens changed) room'
-        adds_new h b c = rw (k.n_is, c, b) (adds_accepted room w k.p_is k.whole (k.found_is ∙ new) slot_free at fits (omega (arith, T-read)))
+          pub adds_new : {before changed : ℕ} → tokens ≤ limit room → before ≡ complete_of room → changed ≡ complete - before
+              → Steps room (add w) (changed_to (n + 1) tokens changed) room'
+          adds_new h b c = rw (k.many, c, b) (adds_accepted room w is_rank whole (is_found ∙ new) slot_free at fits h)

@@ -10,17 +10,21 @@ use borrow.Author.Tests.{leb-true, le-leb, lt-ltb, le-ltb}
 use lib.Dec.{leb}
 use lib.ListN.{length, take, drop, get_or, replicate}
 use lib.Seq.{take_at}
+use Rattle.std.specs.Prelude.{Ok, Err}
 use Rattle.numbers.specs.BigEndian.{uint}
 use Rattle.numbers.proofs.Spliced.{spliced_front}
 use Rattle.reading.specs.Reading.{reading_at}
-use Rattle.book.specs.declared.reader.BookAnswer.TheVariants as a
-use Rattle.book.specs.declared.reader.Placed.{Placed}
+use Rattle.book.specs.declared.reader.Found.{Found}
+use Rattle.book.specs.declared.refusal.Cause.TheVariants.{LimitsOutside, RoomTooShort}
+use Rattle.book.specs.declared.refusal.Refusal.{Refusal}
+use Rattle.book.specs.Refusals.{refusal}
 use Rattle.book.specs.Rules.{Rule, condition_count, rules_size, rule_places, condition_places, padded, places_of}
 use Rattle.book.specs.Limits.{Kept}
-use Rattle.book.specs.Read.{BookRead, read_book, accepted, refused, answer_of, rules_of, placed_of}
+use Rattle.book.specs.Read.{BookRead, read_book, accepted, refused, placed_of}
 use Rattle.book.proofs.Growth.{length-rule_places, length-condition_places, counts, length-counts}
 use Rattle.book.proofs.Limits.{read_kept, condition_count_kept}
 use Rattle.book.proofs.Stands.{read-stands}
+use Rattle.book.proofs.Wordings.{rules-read}
 use Rattle.matching.specs.Complaints.{memories}
 use Rattle.matching.specs.Order.{nought}
 use Rattle.room.specs.Parts.{part, cut, below, twos}
@@ -31,11 +35,9 @@ use Rattle.room.specs.Broken.{sum}
 use Rattle.room.proofs.BrokenLaws.{Whole, whole_not_broken}
 use Rattle.room.proofs.Written.{opened-number, parts-written}
 use Rattle.room.proofs.Order.{length-below, once-below}
-use Rattle.malletfrond.specs.declared.OpenAnswer.TheVariants as o
 use Rattle.sound.specs.Sound.{Sound, held_of, tokens_held}
-use Rattle.malletfrond.specs.Answers.{limits_fit, opened_by, open_answer}
+use Rattle.malletfrond.specs.Answers.{counted, limits_fit, opened_by, open_answer}
 use Rattle.malletfrond.specs.Promise.{Opens}
-use Rattle.malletfrond.proofs.CallLaws.{opened_not_refused}
 use Rattle.sound.proofs.SoundLaws.{held_ext, held-sound}
 use Rattle.checking.proofs.IndexLaws.{take-padded}
 use Rattle.sound.proofs.Tables.{rule_places-most, condition_places-most, length-padded, get_or-padded, twos-padded, counts_kept, sum-counts, uint_zeros, twos_zeros}
@@ -177,12 +179,12 @@ module _ (room room' book : List ℕ) (rules : List Rule) (E T : ℕ) (fit : Lim
       let end : 18288 + T + T ≡ 18288 + T * 2 = omega arith in
       rw end at (ap (λ (qs : List (List ℕ)). rest_part qs) written)
 
-  opens-opened : Opens room book E T (o.Opened 0 0 0) room'
+  opens-opened : Opens room book E T (counted 0 0 0) room'
   unfolding open_answer opened_by
   opens-opened =
       record {
         answered = sym (simp ((limits_fit_lem E T).1 fit, le-ltb (length room) (18288 + T * 2) large, reads));
-        untouched = λ number place e. absurd (opened_not_refused (o.Opened 0 0 0) number place refl e);
+        untouched = λ r e. cc;
         sound = λ e. opened-sound;
         holds = λ others e again. let same : rules ≡ others = cc in rw same at opened-holds;
         past = opened-past;
@@ -192,73 +194,75 @@ module _ (room room' book : List ℕ) (rules : List Rule) (E T : ℕ) (fit : Lim
 -- ---- a refused opening changes nothing
 
 module _ (room book : List ℕ) (E T : ℕ) where
-  opens-refused : (number place : ℕ) → open_answer (length room) book E T ≡ o.Refused number place → Opens room book E T (o.Refused number place) room
-  opens-refused number place e =
-      let never : o.Refused number place ≡ (o.Opened 0 0 0) → ⊥ = λ q. opened_not_refused _ number place q refl in
+  opens-refused : (r : Refusal) → open_answer (length room) book E T ≡ Err r → Opens room book E T (Err r) room
+  opens-refused r e =
+      let never : Err r ≡ counted 0 0 0 → ⊥ = λ q. cc in
       record {
         answered = sym e;
-        untouched = λ n p q. refl;
+        untouched = λ n q. refl;
         sound = λ q. absurd (never q);
         holds = λ rules q. absurd (never q);
         past = refl;
         long = refl;
       }
 
-  pub opens_unfit : limits_fit E T ≡ false → Opens room book E T (o.Refused 8 0) room
+  pub opens_unfit : limits_fit E T ≡ false → Opens room book E T (Err (refusal LimitsOutside 0)) room
   unfolding open_answer
-  opens_unfit h = opens-refused 8 0 (simp h)
+  opens_unfit h = opens-refused (refusal LimitsOutside 0) (simp h)
 
-  pub opens_small : limits_fit E T ≡ true → length room < formula E T → Opens room book E T (o.Refused 9 0) room
+  pub opens_small : limits_fit E T ≡ true → length room < formula E T → Opens room book E T (Err (refusal RoomTooShort 0)) room
   unfolding open_answer
-  opens_small h short = opens-refused 9 0 (simp (h, lt-ltb (length room) (18288 + T * 2) short))
+  opens_small h short = opens-refused (refusal RoomTooShort 0) (simp (h, lt-ltb (length room) (18288 + T * 2) short))
 
-  pub opens_not_read : limits_fit E T ≡ true → formula E T ≤ length room → (number place : ℕ) → read_book book ≡ refused number place → Opens room book E T (o.Refused number place) room
-  unfolding open_answer opened_by
-  opens_not_read h large number place e = opens-refused number place (simp (h, le-ltb (length room) (18288 + T * 2) large, e))
+  -- nor does the book's
+  by_book : (r : Refusal) (b : BookRead) → Err r ≡ placed_of b → opened_by b ≡ Err r
+  unfolding placed_of opened_by
+  by_book r (accepted rules) e = cc
+  by_book r (refused q) e = cc
+
+  pub opens_not_read : limits_fit E T ≡ true → formula E T ≤ length room → (r : Refusal) → Err r ≡ placed_of (read_book book) → Opens room book E T (Err r) room
+  unfolding open_answer
+  opens_not_read h large r e = opens-refused r (simp (h, le-ltb (length room) (18288 + T * 2) large, by_book r (read_book book) e))
 
 -- ---- what was found of a book: its rules, how many they and their conditions are, and their places
 
-pub record Found (book : List ℕ) (p : Placed) (n c : ℕ) : Type 0 where
-  pub rules : List Rule
-  pub reads : read_book book ≡ accepted rules
-  pub number : n ≡ length rules
-  pub conditions : c ≡ condition_count rules
-  pub places : p.places ≡ places_of rules
+module _ (book : List ℕ) (found : Found) (e : Ok found ≡ placed_of (read_book book)) where
+  abbrev rules : List Rule
+  rules = (rules-read book found e).0
 
-pub found-accepted : (book : List ℕ) (p : Placed) → p ≡ placed_of (read_book book) → (n c : ℕ) → p.answer ≡ a.Accepted n c → Found book p n c
-unfolding placed_of answer_of rules_of
-found-accepted book p e n c h = by (read_book book) refl e where
-  by : (b : BookRead) → read_book book ≡ b → p ≡ placed_of b → Found book p n c
-  by (accepted rules) r e = record { rules = rules; reads = r; number = cc; conditions = cc; places = ap (λ (q : Placed). q.places) e }
-  by (refused number place) r e = absurd (let z : ◌≡◌ {A = ℕ} 0 1 = cc in omega arith)
+  reads : read_book book ≡ accepted rules
+  reads = (rules-read book found e).1.0
 
-pub found-refused : (book : List ℕ) (p : Placed) → p ≡ placed_of (read_book book) → (number place : ℕ) → p.answer ≡ a.Refused number place → read_book book ≡ refused number place
-unfolding placed_of answer_of rules_of
-found-refused book p e number place h = by (read_book book) refl e where
-  by : (b : BookRead) → read_book book ≡ b → p ≡ placed_of b → read_book book ≡ refused number place
-  by (accepted rules) r e = absurd (let z : ◌≡◌ {A = ℕ} 0 1 = cc in omega arith)
-  by (refused n q) r e = cc
+  rules_are : found.size.rules ≡ length rules
+  rules_are = ap (λ (f : Found). f.size.rules) (rules-read book found e).1.1
 
-module _ (book : List ℕ) (p : Placed) (n c : ℕ) (f : Found book p n c) where
-  pub found-few : (n ≤ 32) × (c ≤ 192)
+  conditions_are : found.size.conditions ≡ condition_count rules
+  conditions_are = ap (λ (f : Found). f.size.conditions) (rules-read book found e).1.1
+
+  places_are : found.places ≡ places_of rules
+  places_are = ap (λ (f : Found). f.places) (rules-read book found e).1.1
+
+  pub found-few : (found.size.rules ≤ 32) × (found.size.conditions ≤ 192)
   found-few =
-      let kept = read_kept book f.rules f.reads in
-      (omega (arith, kept.most, f.number), omega (arith, condition_count_kept f.rules kept, f.conditions))
+      let kept = read_kept book rules reads in
+      (omega (arith, kept.most, rules_are), omega (arith, condition_count_kept rules kept, conditions_are))
 
-  pub found-opening : (room : List ℕ) (T : ℕ) → 18288 + T * 2 ≤ length room → Opening room book T p.places.rules p.places.counts p.places.conditions
+  pub found-opening : (room : List ℕ) (T : ℕ) → 18288 + T * 2 ≤ length room → Opening room book T found.places.rules found.places.counts found.places.conditions
   unfolding places_of
   found-opening room T large =
-      let kept = read_kept book f.rules f.reads in
+      let kept = read_kept book rules reads in
       record {
         large = large;
-        short = (read-stands book f.rules f.reads).1;
-        rules = rw f.places (length-padded 32 _ (omega (arith, length-rule_places 0 f.rules, kept.most)));
-        counts = rw f.places (length-padded 32 _ (omega (arith, length-counts f.rules, kept.most)));
-        conditions = rw f.places (length-padded 192 _ (omega (arith, length-condition_places 0 f.rules, condition_count_kept f.rules kept)));
+        short = (read-stands book rules reads).1;
+        rules = rw places_are (length-padded 32 _ (omega (arith, length-rule_places 0 rules, kept.most)));
+        counts = rw places_are (length-padded 32 _ (omega (arith, length-counts rules, kept.most)));
+        conditions = rw places_are (length-padded 192 _ (omega (arith, length-condition_places 0 rules, condition_count_kept rules kept)));
       }
 
   pub opens-found : (room room' : List ℕ) (E T : ℕ) → limits_fit E T ≡ true → formula E T ≤ length room → length room' ≡ length room
-      → cut 0 (widths T) room' ≡ opened E T book n c p.places.rules p.places.counts p.places.conditions (cut 0 (widths T) room) → Opens room book E T (o.Opened 0 0 0) room'
+      → cut 0 (widths T) room' ≡ opened E T book found.size.rules found.size.conditions found.places.rules found.places.counts found.places.conditions (cut 0 (widths T) room)
+      → Opens room book E T (counted 0 0 0) room'
   unfolding places_of
   opens-found room room' E T fit large long written =
-      opens-opened room room' book f.rules E T ((limits_fit_lem E T).0 fit) f.reads large long (rw (f.number, f.conditions, f.places) at written)
+      opens-opened room room' book rules E T ((limits_fit_lem E T).0 fit) reads large long
+      (written ∙ ap (λ (f : Found). opened E T book f.size.rules f.size.conditions f.places.rules f.places.counts f.places.conditions (cut 0 (widths T) room)) (rules-read book found e).1.1)

@@ -6,6 +6,9 @@ use mathlib.Core.List.Memᴰ
 use mathlib.Core.List.{List}
 use native.Mathlib.Omega.{arith}
 use lib.ListN.{length}
+use Rattle.std.specs.Prelude.{Err}
+use Rattle.book.specs.declared.refusal.Cause.TheVariants.{NotPresent}
+use Rattle.book.specs.Refusals.{refusal}
 use Rattle.reading.specs.declared.Reading.{Reading}
 use Rattle.reading.specs.Reading.{is_less, is_same}
 use Rattle.matching.specs.Complaints.{book_count, complaints}
@@ -18,9 +21,8 @@ use Rattle.room.specs.Broken.{broken}
 use Rattle.room.specs.Layout.{head_number, parts, order_part, slots_part}
 use Rattle.room.specs.Held.{held, complete_of}
 use Rattle.step.specs.Worked.{RemovedAt}
-use Rattle.malletfrond.specs.declared.StepAnswer.TheVariants as a
 use Rattle.sound.specs.Sound.{Sound, state_of}
-use Rattle.malletfrond.specs.Answers.{refusals}
+use Rattle.malletfrond.specs.Answers.{changed_to, refusals}
 use Rattle.malletfrond.specs.Promise.{Steps}
 use Rattle.malletfrond.proofs.AddLaws.{stands, is-present, present_many}
 use Rattle.sound.proofs.AnswerLaws.{vanished}
@@ -34,7 +36,7 @@ use Rattle.malletfrond.proofs.StepLaws.{steps-refused, steps-accepted}
 -- ---- the step on values, case by case
 
 module _ (s : State) (w : Reading) where
-  removed_12 : present s w ≡ false → stepped s (remove w) ≡ refuse s 12
+  removed_12 : present s w ≡ false → stepped s (remove w) ≡ refuse s NotPresent
   unfolding stepped removed
   removed_12 e = rw e
 
@@ -49,12 +51,12 @@ module _ (s : State) (w : Reading) where
 -- ---- in a room that is not broken
 
 module _ (room : List ℕ) (w : Reading) {p : ℕ} (place : Sound room → p ≡ rank_in room w) (whole : broken room ≡ false) where
-  pub removes_absent : stands room w p ≡ false → Steps room (remove w) (a.Refused 12) room
+  pub removes_absent : stands room w p ≡ false → Steps room (remove w) (Err (refusal NotPresent 0)) room
   unfolding refusals
-  removes_absent e = steps-refused room (remove w) 12 whole (Memᴰ.head refl) (λ s. removed_12 (state_of room s) w (is-present room w place whole s false e))
+  removes_absent e = steps-refused room (remove w) NotPresent whole (Memᴰ.head refl) (λ s. removed_12 (state_of room s) w (is-present room w place whole s false e))
 
   pub removes_accepted : stands room w p ≡ true → {tokens complete : ℕ} {room' : List ℕ} → RemovedAt room p tokens complete room'
-      → Steps room (remove w) (a.Accepted (head_number room 2 - 1) tokens (complete_of room - complete)) room'
+      → Steps room (remove w) (changed_to (head_number room 2 - 1) tokens (complete_of room - complete)) room'
   unfolding held
   removes_accepted there {tokens} {complete} {room'} at =
       steps-accepted room room' (remove w) (head_number room 2 - 1) tokens (complete_of room - complete) at.aside _ _ complete whole at.written at.long

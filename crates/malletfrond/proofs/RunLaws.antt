@@ -16,10 +16,8 @@ use Rattle.matching.specs.Step as v
 use Rattle.matching.proofs.Laws.ReadingOrder.{is_same-exact}
 use Rattle.matching.proofs.Laws.Steps.{stepped_keeps, stepped-refused, stepped_settled, added-accepted, removed-accepted}
 use Rattle.room.specs.Held.{Held, held}
-use Rattle.malletfrond.specs.declared.OpenAnswer.{OpenAnswer}
-use Rattle.malletfrond.specs.declared.OpenAnswer.TheVariants as o
 use Rattle.sound.specs.Sound.{Sound, held_of, state_of}
-use Rattle.malletfrond.specs.Answers.{step_answer}
+use Rattle.malletfrond.specs.Answers.{CountsAnswer, counted, step_answer}
 use Rattle.malletfrond.specs.Promise.{Opens}
 use Rattle.malletfrond.specs.Runs.{Call, step, counts, line, check, Reply, Allowed, Event, Run, ended, then, reply_in, state_after, is_accepted, after, replayed}
 use Rattle.sound.proofs.SoundLaws.{sound-rules}
@@ -41,7 +39,7 @@ state_same room other s s' same =
     let rules : s.rules ≡ s'.rules = sound-rules room other s s' (ap (λ (h : Held). h.book) same) in
     rw (rules, same)
 
-pub opens_state : (room book : List ℕ) (rules : List Rule) (E T : ℕ) (answer : OpenAnswer) (room' : List ℕ) → Opens room book E T answer room' → answer ≡ (o.Opened 0 0 0)
+pub opens_state : (room book : List ℕ) (rules : List Rule) (E T : ℕ) (answer : CountsAnswer) (room' : List ℕ) → Opens room book E T answer room' → answer ≡ counted 0 0 0
     → read_book book ≡ accepted rules → (s : Sound room') → state_of room' s ≡ opened rules E T
 opens_state room book rules E T answer room' p e reads s = sound_state room' book rules E T [] s reads (p.holds rules e reads)
 

@@ -8,17 +8,22 @@ use mathlib.Core.List.Memᴰ
 use mathlib.Core.List.{List, Memᴰ}
 use native.Mathlib.Omega.{arith}
 use lib.ListN.{length, drop}
-use Rattle.matching.specs.Step.{Stepped, Step, add, remove, accepted, refuse, stepped}
+use Rattle.std.specs.Prelude.{Err}
+use Rattle.book.specs.declared.refusal.Cause.{Cause}
+use Rattle.book.specs.declared.refusal.Cause.TheVariants.{RoomBroken, AlreadyPresent, NotPresent, TooManyReadings, TooManyTokens}
+use Rattle.book.specs.declared.refusal.Refusal.{Refusal}
+use Rattle.book.specs.Refusals.{refusal}
+use Rattle.matching.specs.Step.{Step, add, remove, accepted, refuse, stepped}
+use Rattle.matching.specs.Step as v
 use Rattle.room.specs.Parts.{cut}
 use Rattle.room.specs.Layout.{widths, head_number, limit, formula, parts, rest_part}
 use Rattle.room.specs.Broken.{broken}
 use Rattle.room.specs.Held.{held}
 use Rattle.room.specs.Written.{Aside}
 use Rattle.room.specs.Written as written
-use Rattle.malletfrond.specs.declared.StepAnswer.{StepAnswer}
-use Rattle.malletfrond.specs.declared.StepAnswer.TheVariants as a
 use Rattle.sound.specs.Sound.{Sound, held_of, state_of}
-use Rattle.malletfrond.specs.Answers.{step_answer, refusals}
+use Rattle.malletfrond.specs.declared.Stepped.{Stepped}
+use Rattle.malletfrond.specs.Answers.{StepAnswer, changed_to, step_answer, refusals}
 use Rattle.malletfrond.specs.Promise.{Steps}
 use Rattle.sound.proofs.Next.{Next}
 use Rattle.sound.proofs.Resumed.{next-holds, next-sound}
@@ -26,13 +31,13 @@ use Rattle.sound.proofs.Resumed.{next-holds, next-sound}
 -- ---- a refusal
 
 module _ (room : List ℕ) (step : Step) where
-  pub steps-broken : broken room ≡ true → Steps room step (a.Refused 10) room
+  pub steps-broken : broken room ≡ true → Steps room step (Err (refusal RoomBroken 0)) room
   steps-broken h =
       let never : broken room ≡ false → ⊥ = λ f. false≢true (sym f ∙ h) in
       record {
         refused_10 = λ t. refl;
-        numbered = λ number f e. absurd (never f);
-        untouched = λ number e. refl;
+        numbered = λ r f e. absurd (never f);
+        untouched = λ r e. refl;
         answered = λ s. absurd (never s.whole);
         sound = λ s. s;
         holds = λ s. absurd (never s.whole);
@@ -40,17 +45,17 @@ module _ (room : List ℕ) (step : Step) where
         long = refl;
       }
 
-  pub steps-refused : (number : ℕ) → broken room ≡ false → Memᴰ number (refusals step)
-      → ((s : Sound room) → stepped (state_of room s) step ≡ refuse (state_of room s) number) → Steps room step (a.Refused number) room
+  pub steps-refused : (cause : Cause) → broken room ≡ false → Memᴰ (refusal cause 0) (refusals step)
+      → ((s : Sound room) → stepped (state_of room s) step ≡ refuse (state_of room s) cause) → Steps room step (Err (refusal cause 0)) room
   unfolding step_answer
-  steps-refused number whole one same =
+  steps-refused cause whole one same =
       record {
         refused_10 = λ t. absurd (false≢true (sym whole ∙ t));
-        numbered = λ n f e. let is : n ≡ number = cc in Memᴰ.cast is one;
-        untouched = λ n e. refl;
-        answered = λ s. sym (ap (λ (p : Stepped). step_answer p.answer) (same s));
+        numbered = λ r f e. let is : r ≡ refusal cause 0 = cc in Memᴰ.cast is one;
+        untouched = λ r e. refl;
+        answered = λ s. sym (ap (λ (p : v.Stepped). step_answer p.answer) (same s));
         sound = λ s. s;
-        holds = λ s. s.holds ∙ sym (ap (λ (p : Stepped). held_of (held room).book s.rules (held room).E (held room).T p.next.readings) (same s));
+        holds = λ s. s.holds ∙ sym (ap (λ (p : v.Stepped). held_of (held room).book s.rules (held room).E (held room).T p.next.readings) (same s));
         past = refl;
         long = refl;
       }
@@ -66,22 +71,24 @@ past-written room room' aside slots rows e =
     let end : 18288 + T + T ≡ 18288 + T * 2 = omega arith in
     rw end at (ap (λ (ps : List (List ℕ)). rest_part ps) e)
 
--- a step accepted is not one refused
-pub accepted_not_refused : (readings tokens changed number : ℕ) → a.Accepted readings tokens changed ≡ a.Refused number → ⊥
-accepted_not_refused readings tokens changed number e = let z : ◌≡◌ {A = ℕ} 0 1 = cc in omega arith
+-- two that are the same have the same numbers
+pub changed_same : {n t c n' t' c' : ℕ} → changed_to n t c ≡ changed_to n' t' c' → (n ≡ n') × ((t ≡ t') × (c ≡ c'))
+changed_same {n} {t} {c} {n'} {t'} {c'} e =
+    let same : ◌≡◌ {A = Stepped} (record { readings = n; tokens = t; changed = c }) (record { readings = n'; tokens = t'; changed = c' }) = cc in
+    (ap (λ (x : Stepped). x.readings) same, (ap (λ (x : Stepped). x.tokens) same, ap (λ (x : Stepped). x.changed) same))
 
 -- whatever number of complete matches was counted aside
 pub steps-accepted : (room room' : List ℕ) (step : Step) (readings tokens changed : ℕ) (aside : Aside) (slots rows : List ℕ) (complete : ℕ) → broken room ≡ false
     → cut 0 (widths (limit room)) room' ≡ written.stepped aside slots rows (parts room) → length room' ≡ length room
     → ((s : Sound room) → ((stepped (state_of room s) step).answer ≡ accepted readings tokens changed)
     × Next room s aside slots rows (stepped (state_of room s) step).next.readings complete)
-    → Steps room step (a.Accepted readings tokens changed) room'
+    → Steps room step (changed_to readings tokens changed) room'
 unfolding step_answer
 steps-accepted room room' step readings tokens changed aside slots rows complete whole e long does =
     record {
       refused_10 = λ t. absurd (false≢true (sym whole ∙ t));
-      numbered = λ n f q. absurd (accepted_not_refused readings tokens changed n q);
-      untouched = λ n q. absurd (accepted_not_refused readings tokens changed n q);
+      numbered = λ r f q. cc;
+      untouched = λ r q. cc;
       answered = λ s. sym (ap step_answer (does s).0);
       sound = λ s. next-sound room room' s aside slots rows (stepped (state_of room s) step).next.readings complete (does s).1 e long;
       holds = λ s. next-holds room room' s aside slots rows (stepped (state_of room s) step).next.readings complete (does s).1 e long;
@@ -94,16 +101,21 @@ steps-accepted room room' step readings tokens changed aside slots rows complete
 -- the same answer, and no byte is changed
 pub steps-once : (room : List ℕ) (step : Step) (x y : StepAnswer) (room' room'' : List ℕ) → broken room ≡ true → Steps room step x room' → Steps room step y room''
     → (x ≡ y) × (room' ≡ room) × (room'' ≡ room)
-steps-once room step x y room' room'' h p q = (p.refused_10 h ∙ sym (q.refused_10 h), p.untouched 10 (p.refused_10 h), q.untouched 10 (q.refused_10 h))
+steps-once room step x y room' room'' h p q = (p.refused_10 h ∙ sym (q.refused_10 h), p.untouched _ (p.refused_10 h), q.untouched _ (q.refused_10 h))
 
 -- ---- a sound room is never refused as broken
 
-not_10 : (step : Step) → ¬ Memᴰ 10 (refusals step)
-unfolding refusals
-not_10 (add w) m = ⊎_elim (λ (e : 10 ≡ 11). omega arith)
-    (λ n. ⊎_elim (λ (e : 10 ≡ 13). omega arith) (λ k. ⊎_elim (λ (e : 10 ≡ 14). omega arith) Memᴰ.not-nil (Memᴰ.cases_cons k)) (Memᴰ.cases_cons n))
-    (Memᴰ.cases_cons m)
-not_10 (remove w) m = ⊎_elim (λ (e : 10 ≡ 12). omega arith) Memᴰ.not-nil (Memᴰ.cases_cons m)
+-- a refusal is known by its cause
+same_cause : {a b : Cause} → refusal a 0 ≡ refusal b 0 → a ≡ b
+same_cause e = ap (λ (r : Refusal). r.cause) e
 
-pub steps_never_10 : (room : List ℕ) (step : Step) (answer : StepAnswer) (room' : List ℕ) → Sound room → Steps room step answer room' → ¬ (answer ≡ a.Refused 10)
-steps_never_10 room step answer room' s p e = not_10 step (p.numbered 10 s.whole e)
+not_10 : (step : Step) → ¬ Memᴰ (refusal RoomBroken 0) (refusals step)
+unfolding refusals
+not_10 (add w) m = ⊎_elim (λ (e : refusal RoomBroken 0 ≡ refusal AlreadyPresent 0). let z : RoomBroken ≡ AlreadyPresent = same_cause e in cc)
+    (λ n. ⊎_elim (λ (e : refusal RoomBroken 0 ≡ refusal TooManyReadings 0). let z : RoomBroken ≡ TooManyReadings = same_cause e in cc)
+    (λ k. ⊎_elim (λ (e : refusal RoomBroken 0 ≡ refusal TooManyTokens 0). let z : RoomBroken ≡ TooManyTokens = same_cause e in cc) Memᴰ.not-nil (Memᴰ.cases_cons k)) (Memᴰ.cases_cons n))
+    (Memᴰ.cases_cons m)
+not_10 (remove w) m = ⊎_elim (λ (e : refusal RoomBroken 0 ≡ refusal NotPresent 0). let z : RoomBroken ≡ NotPresent = same_cause e in cc) Memᴰ.not-nil (Memᴰ.cases_cons m)
+
+pub steps_never_10 : (room : List ℕ) (step : Step) (answer : StepAnswer) (room' : List ℕ) → Sound room → Steps room step answer room' → ¬ (answer ≡ Err (refusal RoomBroken 0))
+steps_never_10 room step answer room' s p e = not_10 step (p.numbered _ s.whole e)

@@ -1,7 +1,10 @@
 -- What the three demands ask, of any call and of any run from an accepted opening. Assumes nothing: these are definitions.
-use Rattle.std.specs.Prelude.{◌≡◌, ℕ, ◌≤◌, ◌<◌, Bool, true, false, not, ◌↔◌, length, drop, get_or}
+use Rattle.std.specs.Prelude.{◌≡◌, ℕ, ◌≤◌, ◌<◌, Bool, true, false, ◌↔◌, length, drop, get_or, Result, Ok, Err}
 use mathlib.Core.List.{List, [], Memᴰ}
 use Rattle.numbers.specs.Spliced.{spliced}
+use Rattle.book.specs.declared.refusal.Cause.TheVariants.{NoSuchComplaint}
+use Rattle.book.specs.declared.refusal.Refusal.{Refusal}
+use Rattle.book.specs.Refusals.{refusal}
 use Rattle.book.specs.Rules.{Rule}
 use Rattle.book.specs.Read.{read_book, accepted}
 use Rattle.book.specs.Limits.{All}
@@ -13,31 +16,23 @@ use Rattle.matching.specs.Order.{Less, Sorted, Lex}
 use Rattle.matching.specs.Step.{add, remove}
 use Rattle.room.specs.Layout.{formula, head_number, limit}
 use Rattle.room.specs.Held.{held}
-use Rattle.malletfrond.specs.declared.OpenAnswer.TheVariants as o
-use Rattle.malletfrond.specs.declared.CountsAnswer.{CountsAnswer}
-use Rattle.malletfrond.specs.declared.CountsAnswer.TheVariants as c
-use Rattle.malletfrond.specs.declared.LineAnswer.{LineAnswer}
-use Rattle.malletfrond.specs.declared.LineAnswer.TheVariants as l
 use Rattle.sound.specs.Sound.{Sound, held_of}
-use Rattle.malletfrond.specs.Answers.{complaint_line, complaint_at}
+use Rattle.malletfrond.specs.Answers.{LineAnswer, counted, complaint_line, complaint_at}
 use Rattle.malletfrond.specs.Promise.{Opens}
-use Rattle.malletfrond.specs.Runs.{Call, step, counts, line, check, Reply, Allowed, Event, Run, reply_in, is_accepted, replayed}
+use Rattle.malletfrond.specs.Runs.{Call, step, counts, line, check, Reply, Allowed, Event, Run, reply_in, replayed}
 
 -- ---- demand 1
 
-unfoldable pub counts_refused : CountsAnswer → Bool
-counts_refused (c.Counted readings tokens complete) = false
-counts_refused (c.Refused number) = true
-
-unfoldable pub line_refused : LineAnswer → Bool
-line_refused (l.Written n) = false
-line_refused (l.Refused number) = true
+-- whether there is a refusal in place of an answer
+unfoldable pub has_refused : {A : Type 0} → Result A Refusal → Bool
+has_refused (Ok x) = false
+has_refused (Err e) = true
 
 -- whether a call was refused; the check never is
 unfoldable pub is_refused : (call : Call) → Reply call → Bool
-is_refused (step x) answer = not (is_accepted answer)
-is_refused counts answer = counts_refused answer
-is_refused (line k buffer) answer = line_refused answer.0
+is_refused (step x) answer = has_refused answer
+is_refused counts answer = has_refused answer
+is_refused (line k buffer) answer = has_refused answer.0
 is_refused check answer = false
 
 -- the buffer that a call is lent, and what it leaves in it; only a line is lent one
@@ -55,8 +50,8 @@ buffer_left check answer = []
 
 -- how many bytes of the buffer a line took; none where it was refused
 unfoldable pub line_length : LineAnswer → ℕ
-line_length (l.Written n) = n
-line_length (l.Refused number) = 0
+line_length (Ok n) = n
+line_length (Err e) = 0
 
 unfoldable pub written : (call : Call) → Reply call → ℕ
 written (step x) answer = 0
@@ -91,7 +86,7 @@ pub record Reached (book : List ℕ) (rules : List Rule) (E T : ℕ) (events : L
   pub lent : List ℕ
   pub start : List ℕ
   pub reads : read_book book ≡ accepted rules
-  pub opens : Opens lent book E T (o.Opened 0 0 0) start
+  pub opens : Opens lent book E T (counted 0 0 0) start
   pub run : Run start events last
   pub bytes : (k : ℕ) → get_or book k 0 < 256
   pub numbers : All (λ (e : Event). NarrowCall e.0) events
@@ -115,5 +110,5 @@ pub record Listed (rules : List Rule) (readings : List Reading) (last : List ℕ
   pub matches : (d : Reading) (m : Matched) → Memᴰ m list ↔ (Memᴰ m.rule rules × IsMatch d readings (pass_of m.rule) (levels m.rule) m.readings)
   pub ascending : Sorted (Before (Lex is_less)) list
   pub asked : (k : ℕ) (buffer : List ℕ) (reply : Reply (line k buffer)) (room : List ℕ) → 230 ≤ length buffer → k < length list → Allowed last (line k buffer) reply room
-      → reply ≡ (l.Written (length (complaint_line (complaint_at list k))), spliced buffer 0 (complaint_line (complaint_at list k)))
-  pub no_more : (k : ℕ) (buffer : List ℕ) (reply : Reply (line k buffer)) (room : List ℕ) → length list ≤ k → Allowed last (line k buffer) reply room → reply ≡ (l.Refused 16, buffer)
+      → reply ≡ (Ok (length (complaint_line (complaint_at list k))), spliced buffer 0 (complaint_line (complaint_at list k)))
+  pub no_more : (k : ℕ) (buffer : List ℕ) (reply : Reply (line k buffer)) (room : List ℕ) → length list ≤ k → Allowed last (line k buffer) reply room → reply ≡ (Err (refusal NoSuchComplaint 0), buffer)

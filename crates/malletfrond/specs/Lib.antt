@@ -1,4 +1,5 @@
 pub mod Answers
+pub mod Looked
 pub mod Promise
 pub mod Runs
 pub mod Demand

@@ -1,15 +1,10 @@
 -- Runs: calls one after the other, each lent the same whole room, with the answers and rooms that the promises allow. Assumes nothing: these are definitions.
-use Rattle.std.specs.Prelude.{◌≡◌, ℕ, Bool, true, false, not, ◌&&◌, ◌||◌, List, [], ◌∷◌, length}
+use Rattle.std.specs.Prelude.{◌≡◌, ℕ, Bool, true, false, not, ◌&&◌, ◌||◌, List, [], ◌∷◌, length, Ok, Err}
 use Rattle.reading.specs.declared.Reading.{Reading}
 use Rattle.reading.specs.Reading.{is_same}
 use Rattle.matching.specs.Complaints.{complaints, book_count}
 use Rattle.matching.specs.Step.{State, Step, add, remove, stepped}
-use Rattle.malletfrond.specs.declared.StepAnswer.{StepAnswer}
-use Rattle.malletfrond.specs.declared.StepAnswer.TheVariants as a
-use Rattle.malletfrond.specs.declared.CountsAnswer.{CountsAnswer}
-use Rattle.malletfrond.specs.declared.CountsAnswer.TheVariants as c
-use Rattle.malletfrond.specs.declared.LineAnswer.{LineAnswer}
-use Rattle.malletfrond.specs.Answers.{step_answer, line_answer, line_buffer}
+use Rattle.malletfrond.specs.Answers.{CountsAnswer, StepAnswer, LineAnswer, counted, step_answer, line_answer, line_buffer}
 use Rattle.malletfrond.specs.Promise.{Steps, Counts, Lines, Checks}
 
 -- a call lent a room: a step, the counts, complaint k into a buffer, the check
@@ -47,7 +42,7 @@ pub data Run : List ℕ → List Event → List ℕ → Type 0 where
 -- the reply to a call in a state, and the state after it
 unfoldable pub reply_in : State → (call : Call) → Reply call
 reply_in s (step x) = step_answer (stepped s x).answer
-reply_in s counts = c.Counted (length s.readings) (book_count s.book s.readings) (length (complaints s.book s.readings))
+reply_in s counts = counted (length s.readings) (book_count s.book s.readings) (length (complaints s.book s.readings))
 reply_in s (line k buffer) = (line_answer (complaints s.book s.readings) k buffer, line_buffer (complaints s.book s.readings) k buffer)
 reply_in s check = true
 
@@ -60,8 +55,8 @@ state_after s check = s
 -- ---- the accepted steps replayed on a set
 
 unfoldable pub is_accepted : StepAnswer → Bool
-is_accepted (a.Accepted readings tokens changed) = true
-is_accepted (a.Refused number) = false
+is_accepted (Ok to) = true
+is_accepted (Err e) = false
 
 -- whether a reading is in the set after a step, which changes it only where it was accepted
 unfoldable pub after : (Reading → Bool) → Step → StepAnswer → Reading → Bool

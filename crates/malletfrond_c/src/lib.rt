@@ -9,8 +9,8 @@ ghost use Rattle.malletfrond_c.specs.Told.{Told};
 
 mod writing;
 
-use book::rules::WordingPlace;
-use malletfrond::{CountsAnswer, LineAnswer, OpenAnswer, StepAnswer};
+use book::refusal::Refusal;
+use malletfrond::Stepped;
 
 // `malletfrond::open`; the place of a refusal through `place`.
 #[unsafe(no_mangle)]
@@ -23,36 +23,32 @@ pub extern "C" fn malletfrond_open(
 ) -> u64
     ensures { OpensOut room.old book.now e t place.old result place.new room.new }
 {
-    let answer = malletfrond::open(room, book, e, t);
-    match answer {
-        OpenAnswer::Opened {
-            readings: _,
-            tokens: _,
-            complete: _,
-        } => 0,
-        OpenAnswer::Refused { number, place: at } => {
-            *place = at as u64;
-            number as u64
+    match malletfrond::open(room, book, e, t) {
+        Ok(_) => 0,
+        Err(refusal) => {
+            *place = refusal.place as u64;
+            refusal.cause.number() as u64
         }
     }
 }
 
 // What a step answered, through three numbers.
-fn told(answer: StepAnswer, readings: &mut u64, tokens: &mut u64, changed: &mut u64) -> u64
+fn told(
+    answer: Result<Stepped, Refusal>,
+    readings: &mut u64,
+    tokens: &mut u64,
+    changed: &mut u64,
+) -> u64
     ensures { Told answer readings.old tokens.old changed.old result readings.new tokens.new changed.new }
 {
     match answer {
-        StepAnswer::Accepted {
-            readings: n,
-            tokens: t,
-            changed: c,
-        } => {
-            *readings = n as u64;
-            *tokens = t as u64;
-            *changed = c as u64;
+        Ok(step) => {
+            *readings = step.readings as u64;
+            *tokens = step.tokens as u64;
+            *changed = step.changed as u64;
             0
         }
-        StepAnswer::Refused { number } => number as u64,
+        Err(refusal) => refusal.cause.number() as u64,
     }
 }
 
@@ -100,19 +96,14 @@ pub extern "C" fn malletfrond_counts(
 ) -> u64
     ensures { CountsOut room.now readings.old tokens.old complete.old result readings.new tokens.new complete.new }
 {
-    let answer = malletfrond::counts(room);
-    match answer {
-        CountsAnswer::Counted {
-            readings: n,
-            tokens: t,
-            complete: c,
-        } => {
-            *readings = n as u64;
-            *tokens = t as u64;
-            *complete = c as u64;
+    match malletfrond::counts(room) {
+        Ok(counts) => {
+            *readings = counts.readings as u64;
+            *tokens = counts.tokens as u64;
+            *complete = counts.complete as u64;
             0
         }
-        CountsAnswer::Refused { number } => number as u64,
+        Err(refusal) => refusal.cause.number() as u64,
     }
 }
 
@@ -121,13 +112,12 @@ pub extern "C" fn malletfrond_counts(
 pub extern "C" fn malletfrond_line(room: &[u8], k: u64, buffer: &mut [u8], length: &mut u64) -> u64
     ensures { LinesOut room.now k buffer.old length.old result length.new buffer.new }
 {
-    let answer = malletfrond::line(room, k, buffer);
-    match answer {
-        LineAnswer::Written { length: n } => {
+    match malletfrond::line(room, k, buffer) {
+        Ok(n) => {
             *length = n as u64;
             0
         }
-        LineAnswer::Refused { number } => number as u64,
+        Err(refusal) => refusal.cause.number() as u64,
     }
 }
 
@@ -136,18 +126,14 @@ pub extern "C" fn malletfrond_line(room: &[u8], k: u64, buffer: &mut [u8], lengt
 pub extern "C" fn malletfrond_wording(book: &[u8], number: u64, place: &mut u64) -> u64
     ensures { WordsOut book.now number result place.new }
 {
-    let found = book::rules::wording_place(book, number);
-    match found {
-        WordingPlace::At(offset) => {
+    match book::rules::wording_place(book, number) {
+        Ok(offset) => {
             *place = offset as u64;
             0
         }
-        WordingPlace::Refused {
-            number: n,
-            place: at,
-        } => {
-            *place = at as u64;
-            n as u64
+        Err(missing) => {
+            *place = missing.place as u64;
+            missing.cause.number() as u64
         }
     }
 }

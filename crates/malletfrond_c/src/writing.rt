@@ -3,9 +3,6 @@
 ghost use Rattle.std.specs.Prelude.{[], ◌∷◌};
 ghost use Rattle.malletfrond_c.specs.Writing.{WritesOut, RowsOut};
 
-use writer::read::RowsAnswer;
-use writer::write::WriteAnswer;
-
 // `writer::write::write_book`: the length of the book through `length`.
 #[unsafe(no_mangle)]
 pub extern "C" fn malletfrond_write_book(
@@ -17,15 +14,14 @@ pub extern "C" fn malletfrond_write_book(
 ) -> u64
     ensures { WritesOut rows.now wordings.now buffer.old (length.old ∷ []) place.old result (length.new ∷ []) place.new buffer.new }
 {
-    let answer = writer::write::write_book(rows, wordings, buffer);
-    match answer {
-        WriteAnswer::Written { length: n } => {
+    match writer::write::write_book(rows, wordings, buffer) {
+        Ok(n) => {
             *length = n as u64;
             0
         }
-        WriteAnswer::Refused { number, place: at } => {
-            *place = at as u64;
-            number as u64
+        Err(unwritten) => {
+            *place = unwritten.place as u64;
+            unwritten.cause.number() as u64
         }
     }
 }
@@ -42,19 +38,15 @@ pub extern "C" fn malletfrond_read_rows(
 ) -> u64
     ensures { RowsOut book.now rows.old wordings.old (records.old ∷ rules.old ∷ []) place.old result (records.new ∷ rules.new ∷ []) place.new rows.new wordings.new }
 {
-    let answer = writer::read::read_rows(book, rows, wordings);
-    match answer {
-        RowsAnswer::Read {
-            records: n,
-            rules: m,
-        } => {
-            *records = n as u64;
-            *rules = m as u64;
+    match writer::read::read_rows(book, rows, wordings) {
+        Ok(read) => {
+            *records = read.records as u64;
+            *rules = read.rules as u64;
             0
         }
-        RowsAnswer::Refused { number, place: at } => {
-            *place = at as u64;
-            number as u64
+        Err(unread) => {
+            *place = unread.place as u64;
+            unread.cause.number() as u64
         }
     }
 }

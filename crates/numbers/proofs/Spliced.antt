@@ -7,6 +7,7 @@ use native.Mathlib.Nat.{add-zero, zero-add}
 use native.Mathlib.Omega.{arith}
 use lib.ListN.{length, take, drop, get_or, set, length-append, length-drop, drop_of_length-le, take-append-drop, get_or-append}
 use lib.Seq.{length-take-le, take_all, take-take, take-append-le, take-append_seam, take_at, drop_at, drop-drop, get_or-take, get_or-drop, sets, sets-eq}
+use borrow.Rule.Slice.PartMut.{put_mid}
 use Rattle.numbers.specs.Spliced.{spliced}
 
 module _ {A : Type 0} where
@@ -100,6 +101,11 @@ module _ {A : Type 0} where
       rw (spliced_front, spliced_front, ← e, drop_here xs b zs h, end) (sym (append_assoc ys zs (drop (length (ys ++ zs)) xs)))
 
   -- ---- a part lent from the middle
+
+  -- the k elements from a on, lent, come back as ys: with `put_mid`, the library's word for a part of a slice that was written
+  pub put_mid-spliced : (a k : ℕ) (xs ys : List A) → length ys ≡ k → put_mid a k xs ys ≡ spliced xs a ys
+  unfolding spliced
+  put_mid-spliced a k xs ys e = rw (drop-drop, ← e)
 
   -- the rest from a on, lent, with ys written at its front: it comes back before what stood behind it, and that is nothing
   pub lent-spliced : (xs : List A) (a : ℕ) (ys : List A) {r : List A} → r ≡ spliced (take (length xs - a) (drop a xs)) 0 ys

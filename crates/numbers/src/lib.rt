@@ -1,78 +1,53 @@
 // Numbers in bytes: big-endian and two's complement, as the rule book and the room keep them, and decimal digits, as a line shows them.
 #![tactic(auto)]
 
-ghost use Rattle.std.specs.Prelude.{◌≡◌, ◌+◌, ◌^◌, ◌≤◌, ◌<◌, length, get_or};
+ghost use Rattle.std.specs.Prelude.{◌≡◌, ◌+◌, ◌≤◌, ◌<◌, length};
 ghost use Rattle.numbers.specs.BigEndian.{uint, bytes};
 ghost use Rattle.numbers.specs.Digits.{digits};
 ghost use Rattle.numbers.specs.Signed.{signed};
 ghost use Rattle.numbers.specs.Spliced.{spliced};
 
-// A byte as a number: a function, because a byte read from a slice then asks for its index alone.
-fn wide(x: u8) -> u64
-    ensures { result ≡ x }
-{
-    x as u64
-}
-
-// The big-endian number of the n bytes of b from i on.
-pub fn uint_at(b: &[u8], i: usize, n: usize) -> u64
-    requires { (n ≤ 8) × (i + n ≤ length b.now) }
-    ensures { (result ≡ uint n b.now i) × (result < 256 ^ n) }
-{
-    let mut acc: u64 = 0;
-    let mut k: usize = 0;
-    while k < n {
-        let j = i + k;
-        acc = acc * 256 + wide(b[j]);
-        k += 1;
-    }
-    acc
-}
-
-// One byte of b, as a number.
-fn byte_at(b: &[u8], i: usize) -> u64
-    requires { i < length b.now }
-    ensures { (result ≡ get_or b.now i 0) × (result < 256) }
-{
-    b[i] as u64
-}
-
-// The big-endian number of the two bytes of b from i on: with no loop, for what is read often.
+// The big-endian number of the two bytes of b from i on.
+#[tactic(auto, unfolding(crate::specs::BigEndian::uint))]
 pub fn two_at(b: &[u8], i: usize) -> usize
     requires { i + 2 ≤ length b.now }
     ensures { (result ≡ uint 2 b.now i) × (result < 65536) }
 {
-    (byte_at(b, i) * 256 + byte_at(b, i + 1)) as usize
+    u16::from_be_bytes([b[i], b[i + 1]]) as usize
 }
 
 // The same of four bytes.
+#[tactic(auto, unfolding(crate::specs::BigEndian::uint))]
 pub fn four_at(b: &[u8], i: usize) -> u32
     requires { i + 4 ≤ length b.now }
     ensures { result ≡ uint 4 b.now i }
 {
-    let two = byte_at(b, i) * 256 + byte_at(b, i + 1);
-    let three = two * 256 + byte_at(b, i + 2);
-    (three * 256 + byte_at(b, i + 3)) as u32
+    u32::from_be_bytes([b[i], b[i + 1], b[i + 2], b[i + 3]])
 }
 
-// The same of eight bytes, as two numbers of four: a compiler makes one load of each.
+// The same of eight bytes.
+#[tactic(auto, unfolding(crate::specs::BigEndian::uint))]
 pub fn eight_at(b: &[u8], i: usize) -> u64
     requires { i + 8 ≤ length b.now }
     ensures { result ≡ uint 8 b.now i }
 {
-    (four_at(b, i) as u64) * 0x1_0000_0000 + (four_at(b, i + 4) as u64)
+    u64::from_be_bytes([
+        b[i],
+        b[i + 1],
+        b[i + 2],
+        b[i + 3],
+        b[i + 4],
+        b[i + 5],
+        b[i + 6],
+        b[i + 7],
+    ])
 }
 
 // The whole number that the 64 bits of n are in two's complement.
 pub fn signed_of(n: u64) -> i64
     ensures { result ≡ signed n }
 {
-    if n < 0x8000_0000_0000_0000 {
-        n as i64
-    } else {
-        let k = 0xffff_ffff_ffff_ffff - n;
-        -1 - (k as i64)
-    }
+    n.cast_signed()
 }
 
 // x in two bytes of out from `at` on, big-endian.
@@ -80,8 +55,7 @@ pub fn put_two(out: &mut [u8], at: usize, x: u16)
     requires { at + 2 ≤ length out.old }
     ensures { out.new ≡ spliced out.old at (bytes 2 x) }
 {
-    out[at] = (x / 256) as u8;
-    out[at + 1] = (x % 256) as u8;
+    out[at..at + 2].copy_from_slice(&x.to_be_bytes());
 }
 
 // x in four bytes of out from `at` on, big-endian.
@@ -89,13 +63,18 @@ pub fn put_four(out: &mut [u8], at: usize, x: u32)
     requires { at + 4 ≤ length out.old }
     ensures { out.new ≡ spliced out.old at (bytes 4 x) }
 {
-    out[at] = (x / 16777216) as u8;
-    out[at + 1] = (x / 65536 % 256) as u8;
-    out[at + 2] = (x / 256 % 256) as u8;
-    out[at + 3] = (x % 256) as u8;
+    out[at..at + 4].copy_from_slice(&x.to_be_bytes());
 }
 
-// How many decimal digits x has.
+// x in eight bytes of out from `at` on, big-endian.
+pub fn put_eight(out: &mut [u8], at: usize, x: u64)
+    requires { at + 8 ≤ length out.old }
+    ensures { out.new ≡ spliced out.old at (bytes 8 x) }
+{
+    out[at..at + 8].copy_from_slice(&x.to_be_bytes());
+}
+
+// How many decimal digits x has. Comparisons, the short numbers first: the library's `ilog10` takes more for every number than these do for one of three digits.
 pub fn digit_count(x: u32) -> usize
     ensures { (result ≡ length (digits x)) × (result ≤ 10) }
 {
@@ -137,6 +116,7 @@ pub fn put_digits(rest: &mut [u8], x: u32) -> usize
     let n = digit_count(x);
     let mut at = n;
     let mut y = x;
+    // (no count: two digits a turn, from the last on)
     while 2 < at {
         at -= 2;
         let two = y % 100;

@@ -5,8 +5,8 @@ ghost use Rattle.std.specs.Prelude.{◌≡◌, ◌+◌, ◌*◌, ◌≤◌, leng
 ghost use Rattle.numbers.specs.Spliced.{spliced};
 ghost use Rattle.reading.specs.Reading.{place, is_less, is_same, reading_at, reading_bytes};
 
-// Three whole numbers, each 0 to 4,294,967,295.
-#[derive(Clone, Copy)]
+// Three whole numbers, each 0 to 4,294,967,295. Readings are ordered by line, then column, then value: the derived order, field after field.
+#[derive(Clone, Copy, Debug, PartialEq, Eq, PartialOrd, Ord)]
 pub struct Reading {
     pub line: u32,
     pub column: u32,
@@ -14,51 +14,35 @@ pub struct Reading {
 }
 
 // The number at place p of a reading: line, column, value; past these it is the value again.
+#[tactic(auto, unfolding(crate::specs::Reading::place))]
 pub fn place_of(r: Reading, p: u8) -> u32
     ensures { result ≡ place p r }
 {
-    if p == 0 {
-        return r.line;
+    match p {
+        0 => r.line,
+        1 => r.column,
+        _ => r.value,
     }
-    if p == 1 {
-        return r.column;
-    }
-    r.value
 }
 
 // Whether one reading comes before another: by line, then column, then value.
+#[tactic(auto, using(crate::proofs::Readings::lt_is_less))]
 pub fn is_less(a: Reading, b: Reading) -> bool
     ensures { result ≡ is_less a b }
 {
-    if a.line < b.line {
-        return true;
-    }
-    if b.line < a.line {
-        return false;
-    }
-    if a.column < b.column {
-        return true;
-    }
-    if b.column < a.column {
-        return false;
-    }
-    a.value < b.value
+    a < b
 }
 
 // Whether two readings are the same.
+#[tactic(auto, using(crate::proofs::Readings::eq_is_same))]
 pub fn is_same(a: Reading, b: Reading) -> bool
     ensures { result ≡ is_same a b }
 {
-    if a.line != b.line {
-        return false;
-    }
-    if a.column != b.column {
-        return false;
-    }
-    a.value == b.value
+    a == b
 }
 
 // The reading in the twelve bytes from 12 i on: line, column, value, four bytes each.
+#[tactic(auto, unfolding(crate::specs::Reading::reading_at))]
 pub fn reading_at(bytes: &[u8], i: usize) -> Reading
     requires { i * 12 + 12 ≤ length bytes.now }
     ensures { result ≡ reading_at bytes.now i }

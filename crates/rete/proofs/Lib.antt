@@ -12,4 +12,3 @@ pub mod Spanned
 pub mod Stems
 pub mod TableLaws
 pub mod Times
-pub mod TwoPlanes

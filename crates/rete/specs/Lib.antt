@@ -1,3 +1,4 @@
 pub mod Sift
 pub mod Rules
 pub mod Cut
+pub mod Tallied

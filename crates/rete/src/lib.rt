@@ -3,3 +3,4 @@
 
 pub mod rules;
 pub mod sift;
+pub mod tables;

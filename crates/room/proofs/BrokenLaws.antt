@@ -159,6 +159,36 @@ head_read room =
       λ h. (head_fits_lem room).1 (same_head read (head_number room) (λ k l. sym (head_number-at room k l)) h),
     )
 
+-- what each of them is at most, the two limits of the room being e and t
+abbrev pub highest : ℕ → ℕ → List ℕ
+highest e t = 256 ∷ 2048 ∷ e ∷ t ∷ 8192 ∷ 32 ∷ 192 ∷ 0 ∷ []
+
+module _ (n : ℕ → ℕ) {e t : ℕ} (same_e : e ≡ n 0) (same_t : t ≡ n 1) where
+  pub head-highest : Head n → (k : ℕ) → k < 8 → n k ≤ get_or (highest e t) k 0
+  head-highest h zero l = h.E_high
+  head-highest h (suc zero) l = h.T_high
+  head-highest h (suc (suc zero)) l = omega (arith, h.readings)
+  head-highest h (suc (suc (suc zero))) l = omega (arith, h.tokens)
+  head-highest h (suc (suc (suc (suc zero)))) l = h.book
+  head-highest h (suc (suc (suc (suc (suc zero))))) l = h.rules
+  head-highest h (suc (suc (suc (suc (suc (suc zero)))))) l = h.conditions
+  head-highest h (suc (suc (suc (suc (suc (suc (suc zero))))))) l = omega (arith, h.zero)
+  head-highest h (suc (suc (suc (suc (suc (suc (suc (suc k)))))))) l = absurd (omega arith)
+
+  pub highest-head : ((k : ℕ) → k < 8 → n k ≤ get_or (highest e t) k 0) → 1 ≤ e → 1 ≤ t → Head n
+  highest-head all some_e some_t = record {
+    E_low = omega arith;
+    E_high = all 0 (omega arith);
+    T_low = omega arith;
+    T_high = all 1 (omega arith);
+    readings = omega (arith, all 2 (omega arith));
+    tokens = omega (arith, all 3 (omega arith));
+    book = all 4 (omega arith);
+    rules = all 5 (omega arith);
+    conditions = all 6 (omega arith);
+    zero = omega (arith, all 7 (omega arith));
+  }
+
 -- ---- the tables of rules
 
 -- what is asked of them, by the numbers of rules, tokens and conditions

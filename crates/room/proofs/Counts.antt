@@ -12,9 +12,19 @@ use lib.Dec.{ltb, eqb}
 use lib.ListN.{length, take, get_or}
 use Rattle.room.specs.Broken.{sum}
 use Rattle.room.proofs.BrokenLaws.{sum-take}
-use Rattle.room.proofs.Tally.{Noted}
 
--- ---- what is tested of place k
+-- ---- one test, and what is tested of place k
+
+-- the count before it and after it, which is one more where what is asked does not hold
+abbrev pub Noted : ℕ → ℕ → Type 0 → Type 0
+Noted before after asked = (after ≤ before + 1) × (after ≡ 0 → (before ≡ 0) × asked)
+
+module _ {before after : ℕ} {asked : Type 0} where
+  pub noted_wrong : after ≡ before + 1 → Noted before after asked
+  noted_wrong e = (omega arith, λ z. absurd (omega arith))
+
+  pub noted_right : after ≡ before → asked → Noted before after asked
+  noted_right e holds = (omega arith, λ z. (omega arith, holds))
 
 -- its conditions are added to a sum, where they are at most 6
 abbrev pub Added : List ℕ → ℕ → ℕ → ℕ → Type 0

@@ -1,5 +1,5 @@
 -- A room large enough for its parts of fixed width: it stays so while its length does, and each of those parts is as long as it should be. Assumes nothing.
-use Prim.Native.Nat.{ℕ, ◌+◌, ◌*◌, ◌≤◌, ◌<◌}
+use Prim.Native.Nat.{ℕ, ◌+◌, ◌≤◌}
 use mathlib.Core.Path.{◌≡◌}
 use mathlib.Core.List.{List}
 use native.Mathlib.Omega.{arith}
@@ -10,11 +10,5 @@ use Rattle.room.proofs.Put.{length_part}
 pub large_kept : (l l' : List ℕ) → length l' ≡ length l → 18288 ≤ length l → 18288 ≤ length l'
 large_kept l l' kept h = omega arith
 
-pub large-first : (T : ℕ) (l l' : List ℕ) → length l' ≡ length l → 18288 + T * 2 ≤ length l → 18288 ≤ length l'
-large-first T l l' kept h = omega arith
-
 pub large-part : (l : List ℕ) (a w : ℕ) → a + w ≤ 18288 → 18288 ≤ length l → length (part l a w) ≡ w
 large-part l a w h large = length_part l a w (omega arith)
-
-pub row_fits : (slot : ℕ) (l : List ℕ) → slot < 256 → length l ≡ 6144 → slot * 24 + 24 ≤ length l
-row_fits slot l h e = omega arith

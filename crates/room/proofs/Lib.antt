@@ -5,7 +5,6 @@ pub mod Large
 pub mod Order
 pub mod Put
 pub mod Spliced
-pub mod Tally
 pub mod Turned
 pub mod Twos
 pub mod TwosRead

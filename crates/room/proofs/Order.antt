@@ -5,7 +5,6 @@ use mathlib.Core.Bool.{Bool, true, false}
 use mathlib.Core.List.{List, [], ◌∷◌, ◌++◌}
 use mathlib.Core.Logic.{⊎_elim}
 use native.Mathlib.Nat.{eq-or-lt_of_le, le_of_suc-le-suc}
-use native.Mathlib.Numerals.{add-one}
 use native.Mathlib.Omega.{arith}
 use borrow.Author.Tests.{eqb-true, ne_eqb}
 use lib.Dec.{eqb}
@@ -27,10 +26,6 @@ get_or-below (suc n) k h =
     (λ (e : k ≡ n). rw e (get_or_at (below n) n [] 0 n (length-below n)))
     (λ (m : k < n). get_or-append (below n) (n ∷ []) 0 k (rw (length-below n) m) ∙ get_or-below n k m)
     (eq-or-lt_of_le (le_of_suc-le-suc h))
-
-pub below_more : (n : ℕ) → below n ++ n ∷ [] ≡ below (n + 1)
-unfolding below
-below_more n = rw add-one
 
 pub times-append : (s : ℕ) (a b : List ℕ) → times s (a ++ b) ≡ times s a + times s b
 unfolding times

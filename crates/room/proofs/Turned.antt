@@ -1,16 +1,17 @@
 -- Numbers of two bytes each whose bytes are the wrong way round: a list of them filled in from a table, one of them turned right, and one of them written.
 -- Assumes nothing.
-use Prim.Native.Nat.{ℕ, ◌+◌, ◌*◌, ◌/◌, ◌%◌, ◌≤◌, ◌<◌}
-use mathlib.Core.Path.{◌≡◌, ◌∙◌}
+use Prim.Native.Nat.{ℕ, ◌+◌, ◌*◌, ◌/◌, ◌%◌, ◌<◌}
+use mathlib.Core.Path.{◌≡◌, sym, ap, ◌∙◌}
 use mathlib.Core.List.{List, [], ◌∷◌}
 use native.Mathlib.Nat.{add-zero}
-use native.Mathlib.Numerals.{add-one}
 use native.Mathlib.Omega.{arith}
-use lib.ListN.{length, drop, get_or, set}
+use lib.ListN.{length, drop, get_or}
 use lib.Seq.{get_or-take, get_or-drop}
 use Rattle.numbers.specs.BigEndian.{uint, bytes}
 use Rattle.numbers.specs.Spliced.{spliced}
-use Rattle.numbers.proofs.Spliced.{sets_spliced}
+use Rattle.std.specs.Int.{w16, to_le_bytes}
+use borrow.Rule.Slice.PartMut.{put_mid}
+use Rattle.numbers.proofs.Spliced.{put_mid-spliced}
 use Rattle.room.specs.Parts.{part}
 use Rattle.room.proofs.BrokenLaws.{two_of}
 
@@ -35,10 +36,11 @@ turned_two room ys a i byte so h =
     turned_right (part room a 64) ys i (λ k l. rw (get_or-take 64 (drop a room) k 0 l, get_or-drop) (byte (a + k))) so h ∙ two_of room a i h
 
 -- the bytes of a number turned, the last first: the number in two bytes
-pub turned_put : (l : List ℕ) (a x y : ℕ) → a + 2 ≤ length l → x < 65536 → y ≡ x % 256 * 256 + x / 256
-    → set (set l a (y % 256)) (a + 1) (y / 256) ≡ spliced l a (bytes 2 x)
+pub turned_put : (l : List ℕ) (a x y k : ℕ) (ys : List ℕ) → k ≡ 2 → x < 65536 → y ≡ x % 256 * 256 + x / 256 → ys ≡ to_le_bytes w16 y
+    → put_mid a k l ys ≡ spliced l a (bytes 2 x)
 unfolding bytes
-turned_put l a x y h small e =
+turned_put l a x y k ys two small e same =
     let first : y % 256 ≡ x / 256 % 256 = omega arith in
-    let second : y / 256 ≡ x % 256 = omega arith in
-    rw (first, second, add-one) (sets_spliced l a (x / 256 % 256 ∷ x % 256 ∷ []) (omega arith))
+    let second : y / 256 % 256 ≡ x % 256 = omega arith in
+    let both : ys ≡ x / 256 % 256 ∷ x % 256 ∷ [] = same ∙ rw (first, second) in
+    put_mid-spliced a k l ys (ap length both ∙ sym two) ∙ ap (spliced l a) both

@@ -5,12 +5,13 @@ use mathlib.Core.List.{List, [], ◌∷◌, ◌++◌, append-nil, append_assoc}
 use native.Mathlib.Numerals.{add-one}
 use native.Mathlib.Omega.{arith}
 use lib.ListN.{length, take, get_or, length-append}
-use lib.Seq.{length-take-le, take-suc, drop_at}
+use lib.Seq.{length-take-le, take_all, take-suc, drop_at}
 use Rattle.numbers.specs.BigEndian.{uint, bytes}
 use Rattle.numbers.proofs.BigEndian.{length-bytes, uint-bytes, uint-drop}
 use Rattle.numbers.specs.Spliced.{spliced}
-use Rattle.numbers.proofs.Spliced.{spliced_twice}
+use Rattle.numbers.proofs.Spliced.{spliced_nil, spliced_twice}
 use Rattle.room.specs.Parts.{twos, twos_bytes}
+use Rattle.room.proofs.Spliced.{spliced-whole}
 
 -- ---- written
 
@@ -24,14 +25,32 @@ unfolding twos_bytes
 twos_bytes_snoc [] x = append-nil (bytes 2 x)
 twos_bytes_snoc (y ∷ xs) x = ap (λ (l : List ℕ). bytes 2 y ++ l) (twos_bytes_snoc xs x) ∙ sym (append_assoc (bytes 2 y) (twos_bytes xs) (bytes 2 x))
 
--- one number more behind the first i of them
-pub twos_bytes-behind : (part xs : List ℕ) (i : ℕ) → i < length xs → length part ≡ length xs * 2
-    → spliced (spliced part 0 (twos_bytes (take i xs))) (i * 2) (bytes 2 (get_or xs i 0)) ≡ spliced part 0 (twos_bytes (take (i + 1) xs))
-twos_bytes-behind part xs i h e =
-    let before : length (twos_bytes (take i xs)) ≡ i * 2 = omega (arith, length-twos_bytes (take i xs), length-take-le i xs (omega arith)) in
-    let more : twos_bytes (take i xs) ++ bytes 2 (get_or xs i 0) ≡ twos_bytes (take (i + 1) xs) =
-    sym (rw (add-one, take-suc xs i 0) (twos_bytes_snoc (take i xs) (get_or xs i 0))) in
-    spliced_twice part 0 (twos_bytes (take i xs)) (omega arith) (i * 2) (bytes 2 (get_or xs i 0)) (omega arith) ∙ ap (spliced part 0) more
+-- the first i numbers written over the front of a part
+abbrev pub Fronted : List ℕ → List ℕ → List ℕ → ℕ → Type 0
+Fronted l part xs i = l ≡ spliced part 0 (twos_bytes (take i xs))
+
+pub fronted_none : (part xs : List ℕ) → Fronted part part xs 0
+unfolding twos_bytes
+fronted_none part xs = sym (spliced_nil part 0)
+
+module _ (part xs : List ℕ) (long : length part ≡ length xs * 2) where
+  -- one number more behind them
+  pub fronted_more : {l l' : List ℕ} (i : ℕ) → i < length xs → Fronted l part xs i → l' ≡ spliced l (i * 2) (bytes 2 (get_or xs i 0)) → Fronted l' part xs (i + 1)
+  fronted_more {l} {l'} i h so e =
+      let before : length (twos_bytes (take i xs)) ≡ i * 2 = omega (arith, length-twos_bytes (take i xs), length-take-le i xs (omega arith)) in
+      let more : twos_bytes (take i xs) ++ bytes 2 (get_or xs i 0) ≡ twos_bytes (take (i + 1) xs) =
+      sym (rw (add-one, take-suc xs i 0) (twos_bytes_snoc (take i xs) (get_or xs i 0))) in
+      e
+      ∙ ap (λ (p : List ℕ). spliced p (i * 2) (bytes 2 (get_or xs i 0))) so
+      ∙ spliced_twice part 0 (twos_bytes (take i xs)) (omega arith) (i * 2) (bytes 2 (get_or xs i 0)) (omega arith)
+      ∙ ap (spliced part 0) more
+
+  -- all of them
+  pub fronted_all : {l : List ℕ} (i : ℕ) → length xs ≤ i → Fronted l part xs i → l ≡ twos_bytes xs
+  fronted_all i h so =
+      so
+      ∙ ap (λ (ys : List ℕ). spliced part 0 (twos_bytes ys)) (take_all i xs h)
+      ∙ spliced-whole part (twos_bytes xs) (omega (arith, length-twos_bytes xs))
 
 -- ---- read back
 

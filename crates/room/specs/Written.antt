@@ -4,6 +4,7 @@ use Rattle.numbers.specs.BigEndian.{bytes}
 use Rattle.numbers.specs.Spliced.{spliced}
 use Rattle.reading.specs.declared.Reading.{Reading}
 use Rattle.reading.specs.Reading.{reading_bytes}
+use Rattle.room.specs.declared.write.Worked.{Worked}
 use Rattle.room.specs.Parts.{below, twos_bytes}
 use Rattle.room.specs.Layout.{head, book_part, condition_places_part, rule_places_part, rule_conditions_part, order_part, slots_part, rows_part, nodes_part, lasts_part, rest_part}
 
@@ -42,6 +43,18 @@ pub record Aside : Type 0 where
   pub order : List ℕ
   pub nodes : List ℕ
   pub lasts : List ℕ
+
+-- the same, of the slices in which the code hands it over
+abbrev pub aside : Worked → Aside
+aside w = record {
+  readings = w.readings;
+  tokens = w.tokens;
+  ends = w.ends.now;
+  completes = w.completes.now;
+  order = w.order.now;
+  nodes = w.nodes.now;
+  lasts = w.lasts.now;
+}
 
 -- the parts of a room after a step, given the parts before, the slots' readings and their rows
 unfoldable pub stepped : Aside → List ℕ → List ℕ → List (List ℕ) → List (List ℕ)

@@ -4,7 +4,7 @@ ghost use Rattle.numbers.specs.BigEndian.{bytes};
 ghost use Rattle.numbers.specs.Spliced.{spliced};
 ghost use Rattle.room.specs.Parts.{cut, below, twos_bytes};
 ghost use Rattle.room.specs.Layout.{widths};
-ghost use Rattle.room.specs.Written.{opened, Opening, counted, stepped, slots_with, rows_with, Stepping};
+ghost use Rattle.room.specs.Written.{aside, opened, Opening, counted, stepped, slots_with, rows_with, Stepping};
 
 use crate::layout::{
     BOOK, COMPLETES, CONDITION_PLACES, ENDS, HEAD, NODES, ORDER, ROWS, RULE_CONDITIONS,
@@ -18,11 +18,7 @@ pub fn copy_at(part: &mut [u8], at: usize, from: &[u8], n: usize)
     requires { (at + n ≤ length part.old) × (n ≤ length from.now) }
     ensures { part.new ≡ spliced part.old at (take n from.now) }
 {
-    let mut i: usize = 0;
-    while i < n {
-        part[at + i] = from[i];
-        i += 1;
-    }
+    part[at..at + n].copy_from_slice(&from[..n]);
 }
 
 // Numbers in two bytes each, over a whole part.
@@ -30,10 +26,8 @@ pub fn put_twos(part: &mut [u8], numbers: &[u16])
     requires { length part.old ≡ length numbers.now * 2 }
     ensures { part.new ≡ twos_bytes numbers.now }
 {
-    let mut i: usize = 0;
-    while i < numbers.len() {
-        numbers::put_two(part, i * 2, numbers[i]);
-        i += 1;
+    for (i, x) in numbers.iter().enumerate() {
+        numbers::put_two(part, i * 2, *x);
     }
 }
 
@@ -41,11 +35,7 @@ pub fn put_twos(part: &mut [u8], numbers: &[u16])
 pub fn clear(part: &mut [u8])
     ensures { part.new ≡ replicate (length part.old) 0 }
 {
-    let mut i: usize = 0;
-    while i < part.len() {
-        part[i] = 0;
-        i += 1;
-    }
+    part.fill(0);
 }
 
 // Every slot at its own place: an order in which all are free.
@@ -53,34 +43,51 @@ pub fn put_plain_order(order: &mut [u8])
     requires { length order.old ≡ 256 }
     ensures { order.new ≡ below 256 }
 {
-    let mut i: usize = 0;
-    while i < 256 {
+    for i in 0..256 {
         order[i] = i as u8;
-        i += 1;
     }
 }
 
+// How many readings and tokens a room may hold.
+#[derive(Clone, Copy, Debug, PartialEq, Eq)]
+pub struct Limits {
+    pub readings: u16,
+    pub tokens: u16,
+}
+
+// The index of a book: how many rules and conditions it has, and the tables of them.
+#[derive(Clone, Copy)]
+pub struct Index<'a> {
+    pub rules: u16,
+    pub conditions: u16,
+    pub rule_places: &'a [u16],
+    pub rule_conditions: &'a [u8],
+    pub condition_places: &'a [u16],
+}
+
 // The parts of a room just opened, one after the other.
-pub fn write_opening(
-    room: &mut [u8],
-    book: &[u8],
-    e: u16,
-    t: u16,
-    rules: u16,
-    conditions: u16,
-    rule_places: &[u16],
-    rule_conditions: &[u8],
-    condition_places: &[u16],
-)
-    requires { Opening room.old book.now t rule_places.now rule_conditions.now condition_places.now }
-    ensures { cut 0 (widths t) room.new ≡ opened e t book.now rules conditions rule_places.now rule_conditions.now condition_places.now (cut 0 (widths t) room.old) }
+pub fn write_opening(room: &mut [u8], book: &[u8], limits: Limits, index: &Index<'_>)
+    requires { Opening room.old book.now limits.tokens index.now.rule_places.now index.now.rule_conditions.now index.now.condition_places.now }
+    ensures { cut 0 (widths limits.tokens) room.new ≡ opened limits.readings limits.tokens book.now index.now.rules index.now.conditions index.now.rule_places.now index.now.rule_conditions.now index.now.condition_places.now (cut 0 (widths limits.tokens) room.old) }
 {
-    let head = [e, t, 0, 0, book.len() as u16, rules, conditions, 0];
-    put_twos(&mut room[HEAD..BOOK], &head[..]);
+    let head = [
+        limits.readings,
+        limits.tokens,
+        0,
+        0,
+        book.len() as u16,
+        index.rules,
+        index.conditions,
+        0,
+    ];
+    put_twos(&mut room[HEAD..BOOK], &head);
     copy_at(room, BOOK, book, book.len());
-    put_twos(&mut room[CONDITION_PLACES..RULE_PLACES], condition_places);
-    put_twos(&mut room[RULE_PLACES..RULE_CONDITIONS], rule_places);
-    copy_at(room, RULE_CONDITIONS, rule_conditions, 32);
+    put_twos(
+        &mut room[CONDITION_PLACES..RULE_PLACES],
+        index.condition_places,
+    );
+    put_twos(&mut room[RULE_PLACES..RULE_CONDITIONS], index.rule_places);
+    copy_at(room, RULE_CONDITIONS, index.rule_conditions, 32);
     clear(&mut room[ENDS..COMPLETES]);
     clear(&mut room[COMPLETES..ORDER]);
     put_plain_order(&mut room[ORDER..SLOTS]);
@@ -105,30 +112,42 @@ pub fn write_counts(room: &mut [u8], readings: u16, tokens: u16, ends: &[u16], c
     put_counts(&mut room[HEAD..BOOK], readings, tokens);
 }
 
+// What a step has worked out aside.
+#[derive(Clone, Copy)]
+pub struct Worked<'a> {
+    pub readings: u16,
+    pub tokens: u16,
+    pub ends: &'a [u16],
+    pub completes: &'a [u16],
+    pub order: &'a [u8],
+    pub nodes: &'a [u8],
+    pub lasts: &'a [u8],
+}
+
 // An addition, written: what the step has worked out aside, into the parts that it concerns.
 pub fn write_added(
     room: &mut [u8],
     most: usize,
-    readings: u16,
-    tokens: u16,
-    ends: &[u16],
-    completes: &[u16],
-    order: &[u8],
-    nodes: &[u8],
-    lasts: &[u8],
+    worked: &Worked<'_>,
     slot: u8,
     r: Reading,
     row: &[u8],
 )
-    requires { Stepping room.old most (record { readings = readings; tokens = tokens; ends = ends.now; completes = completes.now; order = order.now; nodes = nodes.now; lasts = lasts.now }) × (length row.now ≡ 24) }
-    ensures { cut 0 (widths most) room.new ≡ stepped (record { readings = readings; tokens = tokens; ends = ends.now; completes = completes.now; order = order.now; nodes = nodes.now; lasts = lasts.now }) (slots_with (cut 0 (widths most) room.old) slot r) (rows_with (cut 0 (widths most) room.old) slot row.now) (cut 0 (widths most) room.old) }
+    requires { Stepping room.old most (aside worked.now) × (length row.now ≡ 24) }
+    ensures { cut 0 (widths most) room.new ≡ stepped (aside worked.now) (slots_with (cut 0 (widths most) room.old) slot r) (rows_with (cut 0 (widths most) room.old) slot row.now) (cut 0 (widths most) room.old) }
 {
-    let n = tokens as usize;
-    copy_at(room, NODES, nodes, n);
-    copy_at(room, NODES + most, lasts, n);
-    copy_at(room, ORDER, order, 256);
+    let n = worked.tokens as usize;
+    copy_at(room, NODES, worked.nodes, n);
+    copy_at(room, NODES + most, worked.lasts, n);
+    copy_at(room, ORDER, worked.order, 256);
     let s = slot as usize;
     reading::put_reading(&mut room[SLOTS..ROWS], s, r);
     copy_at(&mut room[ROWS..NODES], s * 24, row, 24);
-    write_counts(room, readings, tokens, ends, completes);
+    write_counts(
+        room,
+        worked.readings,
+        worked.tokens,
+        worked.ends,
+        worked.completes,
+    );
 }

@@ -10,8 +10,10 @@ use mathlib.Core.List.{Memᴰ}
 use native.Mathlib.Numerals.{add-one}
 use native.Mathlib.Omega.{arith}
 use lib.ListN.{length, take, drop, get_or, set, length-append, length-drop, take-append-drop}
-use lib.Seq.{take_all, take_at, take-suc, take-take, set_at, split_at, length-take-le, length-slice, get_or-take, get_or-drop}
-use Rattle.numbers.specs.Spliced.{spliced}
+use lib.Seq.{drop-drop, take_at, take-suc, take-take, set_at, split_at, length-take-le, length-slice, get_or-take, get_or-drop}
+use Rattle.std.proofs.lemmas.List.{get_or_default}
+use Rattle.std.specs.List.Sorted.{IsPartitionPoint, IsPartitionedBy}
+use borrow.Rule.Slice.PartMut.{put_mid}
 use Rattle.reading.specs.declared.Reading.{Reading}
 use Rattle.reading.specs.Reading.{is_less, reading_at}
 use Rattle.matching.specs.Order.{Less, Sorted, first, Each}
@@ -20,7 +22,6 @@ use Rattle.room.specs.Held.{times, Once}
 use Rattle.room.proofs.Order.{times-append}
 use Rattle.row.specs.Row.{leading, lesser, moved_in, moved_out}
 use Rattle.weave.proofs.Grown.{le_or_lt}
-use Rattle.room.proofs.Spliced.{set-behind, spliced-whole}
 use Rattle.weave.proofs.SplicedLaws.{length_stretch, stretch_up_to}
 
 -- ---- lists
@@ -96,86 +97,65 @@ module _ (slots : List ℕ) (w : Reading) where
         absurd (false≢true (sym e ∙ rw (get_or-take (rank os) os k 0 high) at is)))
         (le_or_lt (rank os) k)
 
--- ---- the rank between two places
+-- ---- the rank as the place that parts the readings
 
--- where the readings of the first n ascend, the rank of w is from low to high
-pub record Between (slots : List ℕ) (w : Reading) (order : List ℕ) (n low high : ℕ) : Type 0 where
-  pub rises : low ≤ high
-  pub within : high ≤ n
-  pub ranked : Sorted (Less is_less) (map (reading_at slots) (take n order)) → (low ≤ rank slots w (take n order)) × (rank slots w (take n order) ≤ high)
+module _ (slots : List ℕ) (w : Reading) (os : List ℕ) (up : Sorted (Less is_less) (map (reading_at slots) os)) where
+  -- before one that comes before w stand only such
+  pub parted-by : IsPartitionedBy (lesser slots w) os
+  parted-by i j d h k e = by (lesser slots w (get_or os i d)) refl
+    where
+      by : (b : Bool) → lesser slots w (get_or os i d) ≡ b → lesser slots w (get_or os i d) ≡ true
+      by true f = f
+      by false f =
+          let low = leading-below slots w os i (omega arith) (rw (get_or_default os i 0 d (omega arith)) f) in
+          let high = leading-above slots w os j k up (rw (get_or_default os j 0 d k) e) in
+          absurd (omega arith)
 
-module _ (slots : List ℕ) (w : Reading) (order : List ℕ) (n : ℕ) (long : n ≤ length order) where
-  length-first : length (take n order) ≡ n
-  length-first = length-take-le n order long
-
-  pub between_all : Between slots w order n 0 n
-  between_all = record {
-    rises = omega arith;
-    within = omega arith;
-    ranked = λ up. (omega arith, omega (arith, length-first, leading-within (lesser slots w) (take n order)));
-  }
-
-  module _ (low high : ℕ) (b : Between slots w order n low high) where
-    pub between_met : high ≤ low → (low ≤ n) × (Sorted (Less is_less) (map (reading_at slots) (take n order)) → low ≡ rank slots w (take n order))
-    between_met met = (omega arith, λ up. omega (arith, (b.ranked up).0, (b.ranked up).1))
-
-    module _ (mid : ℕ) (below : mid < high) where
-      mid_within : mid < n
-      mid_within = omega arith
-
-      mid_first : mid < length (take n order)
-      mid_first = omega (arith, length-first)
-
-      mid_is : get_or (take n order) mid 0 ≡ get_or order mid 0
-      mid_is = get_or-take n order mid 0 mid_within
-
-      pub between_above : lesser slots w (get_or order mid 0) ≡ true → Between slots w order n (mid + 1) high
-      between_above e = record {
-        rises = omega arith;
-        within = omega arith;
-        ranked = λ up. (omega (arith, leading-above slots w (take n order) mid mid_first up (rw mid_is e)), (b.ranked up).1);
-      }
-
-      pub between_below : low ≤ mid → lesser slots w (get_or order mid 0) ≡ false → Between slots w order n low mid
-      between_below above e = record {
-        rises = above;
-        within = omega arith;
-        ranked = λ up. ((b.ranked up).0, leading-below slots w (take n order) mid mid_first (rw mid_is e));
-      }
+  -- so the place that parts them is the rank
+  pub parted-rank : (i : ℕ) → i ≤ length os → IsPartitionPoint (λ y. lesser slots w y ≡ true) (λ y. lesser slots w y ≡ false) os i → i ≡ leading (lesser slots w) os
+  parted-rank i h (before, behind) =
+      let r : ℕ = rank slots w os in
+      let all : r ≤ length os = leading-within (lesser slots w) os in
+      ⊎_elim
+      (λ (l : r ≤ i). ⊎_elim
+      (λ (m : i ≤ r). omega arith)
+      (λ (m : r < i). absurd (omega (arith, leading-above slots w os r (omega arith) up (before r 0 (omega arith) m))))
+      (le_or_lt i r))
+      (λ (l : i < r). absurd (omega (arith, leading-below slots w os i (omega arith) (behind i 0 (omega arith) (omega arith)))))
+      (le_or_lt r i)
 
 -- ---- an order written anew, and one written in place
 
 -- the order as `put_in` writes it: a copy, the slots from p up to n moved up in it, and then the slot of n set before them
-pub moved_in-set : (l xs a b : List ℕ) (p n : ℕ) → length xs ≡ 256 → length l ≡ 256 → p ≤ n → n < 256 → a ≡ spliced xs 0 (take 256 (drop 0 l))
-    → b ≡ spliced a (p + 1) (take (n - p) (drop p l)) → set b p (get_or l n 0) ≡ moved_in l p n
-unfolding spliced
-moved_in-set l xs a b p n xs-long long low high ea eb =
+pub moved_in-set : (l : List ℕ) (p n : ℕ) → length l ≡ 256 → p ≤ n → n < 256
+    → set (put_mid (p + 1) (n + 1 - (p + 1)) l (take (n - p) (drop p l))) p (get_or l n 0) ≡ moved_in l p n
+moved_in-set l p n long low high =
     let v : ℕ = get_or l n 0 in
     let m : List ℕ = take (n - p) (drop p l) in
-    let all : take 256 l ≡ l = take_all 256 l (omega arith) in
-    let whole : a ≡ l = ea ∙ ap (spliced xs 0) all ∙ spliced-whole xs l (omega arith) in
-    let many = length_stretch l p (n - p) (omega arith) in
-    let end : p + 1 + length m ≡ n + 1 = omega arith in
+    let rest : drop (n + 1 - (p + 1)) (drop (p + 1) l) ≡ drop (n + 1) l =
+    let e : p + 1 + (n + 1 - (p + 1)) ≡ n + 1 = omega arith in
+    drop-drop (n + 1 - (p + 1)) (p + 1) l ∙ ap (λ (k : ℕ). drop k l) e in
     let front : take (p + 1) l ≡ take p l ++ get_or l p 0 ∷ [] = rw (add-one p, take-suc l p 0 (omega arith)) in
-    let is : b ≡ take p l ++ get_or l p 0 ∷ (m ++ drop (n + 1) l) =
-    eb ∙ ap (λ (x : List ℕ). spliced x (p + 1) m) whole ∙ rw (end, front) (append_assoc (take p l) (get_or l p 0 ∷ []) (m ++ drop (n + 1) l)) in
+    let is : put_mid (p + 1) (n + 1 - (p + 1)) l m ≡ take p l ++ get_or l p 0 ∷ (m ++ drop (n + 1) l) =
+    rw (rest, front) (append_assoc (take p l) (get_or l p 0 ∷ []) (m ++ drop (n + 1) l)) in
     ap (λ (x : List ℕ). set x p v) is
     ∙ set_at (take p l) (get_or l p 0) (m ++ drop (n + 1) l) v p (length-take-le p l (omega arith))
     ∙ rw (stretch_up_to l p n low (omega arith))
 
--- the order as `take_from` leaves it: the slots behind p moved down, and then the slot of p set behind them
-pub moved_out-set : (l l1 : List ℕ) (p n : ℕ) → p < n → n ≤ length l → l1 ≡ spliced l p (take (n - 1 - p) (drop (p + 1) l)) → set l1 (n - 1) (get_or l p 0) ≡ moved_out l p n
-unfolding spliced
-moved_out-set l l1 p n low high e =
-    let v : ℕ = get_or l p 0 in
-    let m : List ℕ = take (n - 1 - p) (drop (p + 1) l) in
-    let count : n - 1 - p ≡ n - (p + 1) = omega arith in
-    let these : m ≡ drop (p + 1) (take n l) = ap (λ (k : ℕ). take k (drop (p + 1) l)) count ∙ stretch_up_to l (p + 1) n (omega arith) (omega arith) in
-    let many = length_stretch l (p + 1) (n - 1 - p) (omega arith) in
-    let end : p + length (m ++ v ∷ []) ≡ n = omega (arith, length-append m (v ∷ [])) in
-    ap (λ (x : List ℕ). set x (n - 1) v) e
-    ∙ set-behind l p m (n - 1) v (omega arith) (omega arith)
-    ∙ rw (end, these, append_assoc)
+-- the order as `take_from` leaves it: the slot of p goes behind those that follow it up to n
+pub moved_out-put : (l : List ℕ) (p n : ℕ) → p < n → n ≤ length l
+    → put_mid p (n - p) l (drop 1 (take (n - p) (drop p l)) ++ take 1 (take (n - p) (drop p l))) ≡ moved_out l p n
+moved_out-put l p n low high =
+    let m : List ℕ = take (n - p) (drop p l) in
+    let many : length m ≡ n - p = length_stretch l p (n - p) (omega arith) in
+    let up : m ≡ drop p (take n l) = stretch_up_to l p n (omega arith) (omega arith) in
+    let behind : drop 1 m ≡ drop (p + 1) (take n l) = ap (drop 1) up ∙ drop-drop 1 p (take n l) in
+    let some : 0 < n - p = omega arith in
+    let start : p + 0 ≡ p = omega arith in
+    let own : take 1 m ≡ get_or l p 0 ∷ [] =
+    take-suc m 0 0 (omega arith) ∙ ap (λ (x : ℕ). x ∷ []) (get_or-take (n - p) (drop p l) 0 0 some ∙ get_or-drop p l 0 0 ∙ ap (λ (k : ℕ). get_or l k 0) start) in
+    let rest : drop (n - p) (drop p l) ≡ drop n l = let e : p + (n - p) ≡ n = omega arith in drop-drop (n - p) p l ∙ ap (λ (k : ℕ). drop k l) e in
+    rw (behind, own, rest, append_assoc)
 
 -- ---- moved_in
 

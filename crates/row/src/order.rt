@@ -5,25 +5,13 @@ ghost use Rattle.matching.specs.Order.{Less, Sorted};
 ghost use Rattle.row.specs.Row.{leading, lesser, stands_at, moved_in, moved_out};
 
 use reading::Reading;
-use weave::copy::{copy_from, move_down};
 
 // How many of the first n slots have a reading that comes before w, found by halving: of slots whose readings ascend. Of any other a place up to n.
 pub fn rank_of(order: &[u8], slots: &[u8], n: usize, w: Reading) -> usize
     requires { (n ≤ length order.now) × (length slots.now ≡ 3072) }
     ensures { (result ≤ n) × (Sorted (Less is_less) (map (reading_at slots.now) (take n order.now)) → result ≡ leading (lesser slots.now w) (take n order.now)) }
 {
-    let mut low: usize = 0;
-    let mut high = n;
-    while low < high {
-        let mid = (low + high) / 2;
-        let r = reading::reading_at(slots, order[mid] as usize);
-        if reading::is_less(r, w) {
-            low = mid + 1;
-        } else {
-            high = mid;
-        }
-    }
-    low
+    order[..n].partition_point(|s| reading::is_less(reading::reading_at(slots, *s as usize), w))
 }
 
 // Whether w stands at place p of the first n.
@@ -31,10 +19,7 @@ pub fn stands_at(order: &[u8], slots: &[u8], n: usize, p: usize, w: Reading) -> 
     requires { (n ≤ length order.now) × (length slots.now ≡ 3072) }
     ensures { result ≡ stands_at order.now slots.now n p w }
 {
-    if n <= p {
-        return false;
-    }
-    reading::is_same(reading::reading_at(slots, order[p] as usize), w)
+    p < n && reading::is_same(reading::reading_at(slots, order[p] as usize), w)
 }
 
 // The order with the slot at n at place p, into `next`.
@@ -42,8 +27,8 @@ pub fn put_in(next: &mut [u8], order: &[u8], p: usize, n: usize)
     requires { (length next.old ≡ 256) × ((length order.now ≡ 256) × ((p ≤ n) × (n < 256))) }
     ensures { next.new ≡ moved_in order.now p n }
 {
-    copy_from(next, 0, order, 0, 256);
-    copy_from(next, p + 1, order, p, n - p);
+    next.copy_from_slice(order);
+    next[p + 1..n + 1].copy_from_slice(&order[p..n]);
     next[p] = order[n];
 }
 
@@ -52,7 +37,5 @@ pub fn take_from(order: &mut [u8], p: usize, n: usize)
     requires { (length order.old ≡ 256) × ((p < n) × (n ≤ 256)) }
     ensures { order.new ≡ moved_out order.old p n }
 {
-    let slot = order[p];
-    move_down(order, p, p + 1, n - 1 - p);
-    order[n - 1] = slot;
+    order[p..n].rotate_left(1);
 }

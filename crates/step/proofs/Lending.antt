@@ -2,11 +2,13 @@
 -- the writing behind it say of the parts as lent is so said of the room. Assumes nothing.
 use Prim.Native.Nat.{ℕ, ◌+◌, ◌*◌, ◌-◌, ◌≤◌, ◌<◌}
 use mathlib.Core.Path.{◌≡◌, sym, ap, ap₂, ◌∙◌}
-use mathlib.Core.Bool.{false}
+use mathlib.Core.Bool.{false, false≢true}
 use mathlib.Core.List.{List}
 use native.Mathlib.Omega.{arith}
 use lib.ListN.{length, take, drop, get_or, replicate, length-replicate}
 use lib.Seq.{get_or-take, get_or-drop, take-take}
+use Rattle.std.specs.Prelude.{Result, Ok, Err}
+use Rattle.std.specs.Result.{IsErr}
 use Rattle.numbers.specs.BigEndian.{uint}
 use Rattle.reading.specs.declared.Reading.{Reading}
 use Rattle.room.specs.Parts.{part, cut, twos}
@@ -16,16 +18,21 @@ use Rattle.room.specs.Written.{Aside, stepped, slots_with, rows_with, Stepping}
 use Rattle.room.proofs.BrokenLaws.{Whole, head_number-at, not_broken-whole}
 use Rattle.room.proofs.Large.{large-part}
 use Rattle.room.proofs.Put.{length_part}
+use Rattle.weave.specs.declared.made.Full.{Full}
 use Rattle.weave.specs.View.{seen}
 use Rattle.row.specs.Row.{RowOf, book_flags, moved_in}
-use Rattle.weave.specs.Weave.{Lent}
+use Rattle.rete.specs.declared.rules.Tally.{Tally}
 use Rattle.rete.specs.Rules.{Weaves, Tables}
 use Rattle.row.proofs.Sums.{sum_take_le}
-use Rattle.step.specs.Worked.{book_in, slot_in, AddedAt}
+use Rattle.step.specs.Worked.{book_in, slot_in, AddedAt, tokens_of, complete_in}
 
 -- what lies before the tokens is in the room
 pub in_room : (room : List ℕ) → broken room ≡ false → {e : ℕ} → e ≤ 18288 → e ≤ length room
 in_room room whole h = let w = not_broken-whole room whole in omega arith
+
+-- the same of all of it
+pub room_long : (room : List ℕ) → broken room ≡ false → 18288 ≤ length room
+room_long room whole = in_room room whole (omega arith)
 
 -- a number of the header as it is read
 pub number_read : (room : List ℕ) (k : ℕ) {x : ℕ} → k < 8 → x ≡ uint 2 room (k * 2) → x ≡ head_number room k
@@ -70,10 +77,10 @@ module _ {room : List ℕ} {T n rules : ℕ} (k : Known room T n rules) where
   pub fixed_part : (a w : ℕ) → a + w ≤ 18288 → length (part room a w) ≡ w
   fixed_part a w h = large-part room a w h (omega arith)
 
-  nodes_long : length (nodes_lent room T) ≡ T
+  pub nodes_long : length (nodes_lent room T) ≡ T
   nodes_long = length_part room 18288 (18288 + T - 18288) (omega arith) ∙ omega arith
 
-  lasts_long : length (lasts_lent room T) ≡ T
+  pub lasts_long : length (lasts_lent room T) ≡ T
   lasts_long = length_part room (18288 + T) (18288 + T + T - (18288 + T)) (omega arith) ∙ omega arith
 
   -- ---- the parts as they are lent
@@ -125,20 +132,6 @@ module _ {room : List ℕ} {T n rules : ℕ} (k : Known room T n rules) where
   planes-long : T ≤ length (zeros 2048)
   planes-long = omega (arith, length_zeros 2048)
 
-  pub lent : (row order : List ℕ) → length row ≡ 24 → length order ≡ 256 → n < 256
-      → Lent (part room 8208 384) (part room 9072 3072) (part room 12144 6144) row order (zeros 2048) (zeros 2048) (n + 1) T
-  lent row order r o h =
-      record {
-        places_long = fixed_part 8208 384 (omega arith);
-        slots_long = fixed_part 9072 3072 (omega arith);
-        rows_long = fixed_part 12144 6144 (omega arith);
-        row_long = r;
-        order_long = omega arith;
-        nodes_long = planes-long;
-        lasts_long = planes-long;
-        few = omega arith;
-      }
-
   -- of tokens whose nodes and last slots are as many as the limit says
   pub tables_of : {olds oldl : List ℕ} → length olds ≡ T → length oldl ≡ T
       → Tables (part room 8656 32) (part room 8688 64) (part room 8752 64) olds oldl (zeros 32) (zeros 32) rules
@@ -161,7 +154,7 @@ module _ {room : List ℕ} {T n rules : ℕ} (k : Known room T n rules) where
   -- ---- what the writing asks
 
   pub stepping : (s : Aside) → s.tokens ≤ T → length s.ends ≡ length (zeros 32) → length s.completes ≡ length (zeros 32) → length s.order ≡ 256
-      → length s.nodes ≡ length (zeros 2048) → length s.lasts ≡ length (zeros 2048) → Stepping room T s
+      → T ≤ length s.nodes → T ≤ length s.lasts → Stepping room T s
   stepping s few ends completes order nodes lasts =
       record {
         large = large;
@@ -170,8 +163,8 @@ module _ {room : List ℕ} {T n rules : ℕ} (k : Known room T n rules) where
         ends = ends ∙ length_zeros 32;
         completes = completes ∙ length_zeros 32;
         order = order;
-        nodes = omega (arith, planes-long);
-        lasts = omega (arith, planes-long);
+        nodes = omega arith;
+        lasts = omega arith;
       }
 
   -- ---- an addition
@@ -201,3 +194,9 @@ module _ {room : List ℕ} {T n rules : ℕ} (k : Known room T n rules) where
         written = λ fits. rw (slot_read n h, k.T_is, k.n_is) at (written (omega arith));
         long = long;
       }
+
+-- at an exit
+pub added_exit : {room : List ℕ} {p : ℕ} {w : Reading} {room' : List ℕ} (r : Result Tally Full) → IsErr r → AddedAt room p w (limit room + 1) 0 room'
+    → AddedAt room p w (tokens_of (limit room) r) (complete_in r) room'
+added_exit (Err e) h A = A
+added_exit (Ok t) h A = absurd (false≢true h)

@@ -3,6 +3,7 @@ pub mod CountLaws
 pub mod FindLaws
 pub mod Grown
 pub mod LentLaws
+pub mod Making
 pub mod MovedLaws
 pub mod OldLaws
 pub mod Planes

@@ -4,3 +4,4 @@ pub mod Weave
 pub mod Blocks
 pub mod Near
 pub mod Spun
+pub mod Made

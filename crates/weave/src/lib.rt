@@ -3,6 +3,9 @@
 
 pub mod blocks;
 pub mod copy;
+pub mod earlier;
+pub mod made;
 pub mod near;
+pub mod scene;
 pub mod span;
 pub mod view;

@@ -5,10 +5,10 @@ use mathlib.Core.List.{List, [], ◌∷◌, ◌++◌, append_assoc, append-nil}
 use native.Mathlib.Nat.{add-zero, zero-add}
 use native.Mathlib.Omega.{arith}
 use lib.ListN.{length, length-append}
+use Rattle.std.specs.Prelude.{Ok}
 use Rattle.book.specs.declared.record.Record.{Record}
 use Rattle.book.specs.declared.record.Record.TheVariants as r
 use Rattle.book.specs.declared.record.Test.{Test}
-use Rattle.book.specs.declared.record.Size.TheVariants.{Bytes}
 use Rattle.book.specs.Record.{record_at, test_size, size_of}
 use Rattle.book.specs.Rules.{Rule, tests_size, conditions_size, rules_size}
 use Rattle.book.specs.Read.{accepted, bytes_of, read_book}
@@ -38,7 +38,7 @@ rules_few (rule ∷ rules) = omega (arith, length-append (condition_records rule
 -- ---- n records from `at` on, of which so many are known
 
 module _ (book : List ℕ) where
-  from_one : (n at : ℕ) (rec : Record) (size : ℕ) → 1 ≤ n → record_at book at ≡ rec → size_of rec ≡ Bytes size → ((more : List Record) → goes_on rec more ≡ rec ∷ more)
+  from_one : (n at : ℕ) (rec : Record) (size : ℕ) → 1 ≤ n → record_at book at ≡ Ok rec → size_of rec ≡ size → ((more : List Record) → goes_on (Ok rec) more ≡ rec ∷ more)
       → records_from n book at ≡ rec ∷ records_from (n - 1) book (at + size)
   unfolding records_from bytes_of
   from_one n at rec size h e s on =

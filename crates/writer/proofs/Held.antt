@@ -7,6 +7,7 @@ use native.Mathlib.Omega.{arith}
 use lib.ListN.{length, drop, get_or, length-append, length-drop}
 use lib.Seq.{drop-drop, get_or-drop, drop-append_seam}
 use lib.IntN.{ℤ}
+use Rattle.std.specs.Prelude.{Ok}
 use Rattle.numbers.specs.BigEndian.{uint, bytes}
 use Rattle.numbers.specs.Signed.{signed}
 use Rattle.numbers.proofs.BigEndian.{uint-drop, uint-bytes, length-bytes}
@@ -42,12 +43,12 @@ uint-behind n x front rest h =
     ∙ ap (λ (l : List ℕ). uint n l 0) (drop-append_seam front (bytes n x ++ rest))
     ∙ uint-bytes n x rest h
 
-pub test_read : (book : List ℕ) (at : ℕ) (t : Test) (rest : List ℕ) → Held t → drop at book ≡ test_bytes t ++ rest → record_at book at ≡ r.Test t
+pub test_read : (book : List ℕ) (at : ℕ) (t : Test) (rest : List ℕ) → Held t → drop at book ≡ test_bytes t ++ rest → record_at book at ≡ Ok (r.Test t)
 unfolding test_bytes by_kind constant_body position_body gap_body
 test_read book at (Constant p q n) rest h e =
     let body : List ℕ = p ∷ q ∷ (bytes 4 n ++ rest) in
     let long : 6 ≤ length body = omega (arith, length-append (bytes 4 n) rest, length-bytes 4 n) in
-    record_at-drop book at 3 body e ∙ sym (whole_is 6 at body _ long) ∙ ap (λ (x : ℕ). r.Test (Constant p q x)) (uint-behind 4 n (p ∷ q ∷ []) rest h.2)
+    record_at-drop book at 3 body e ∙ sym (whole_is 6 at body _ long) ∙ ap (λ (x : ℕ). Ok (r.Test (Constant p q x))) (uint-behind 4 n (p ∷ q ∷ []) rest h.2)
 test_read book at (Position p q c o) rest h e =
     let body : List ℕ = p ∷ q ∷ c ∷ o ∷ rest in
     record_at-drop book at 4 body e ∙ sym (whole_is 4 at body _ (omega arith))
@@ -70,8 +71,8 @@ test_read book at (Gap p c o low high) rest h e =
     ∙ signed-bits high h.4 in
     record_at-drop book at 5 body e
     ∙ sym (whole_is 19 at body _ long)
-    ∙ ap (λ (z : ℤ). r.Test (Gap p c o z (signed (uint 8 body 11)))) l
-    ∙ ap (λ (z : ℤ). r.Test (Gap p c o low z)) u
+    ∙ ap (λ (z : ℤ). Ok (r.Test (Gap p c o z (signed (uint 8 body 11))))) l
+    ∙ ap (λ (z : ℤ). Ok (r.Test (Gap p c o low z))) u
 
 -- ---- equal bytes are equal values
 
@@ -84,8 +85,8 @@ tests-once (t ∷ tests) [] h k e =
     absurd (omega (arith, ap length e, length-append (test_bytes t) (tests_bytes tests), length-test_bytes t, test_some t))
 tests-once (t ∷ tests) (u ∷ others) h k e =
     let book : List ℕ = test_bytes t ++ tests_bytes tests in
-    let first : record_at book 0 ≡ r.Test t = test_read book 0 t (tests_bytes tests) h.0 refl in
-    let other : record_at book 0 ≡ r.Test u = test_read book 0 u (tests_bytes others) k.0 e in
+    let first : record_at book 0 ≡ Ok (r.Test t) = test_read book 0 t (tests_bytes tests) h.0 refl in
+    let other : record_at book 0 ≡ Ok (r.Test u) = test_read book 0 u (tests_bytes others) k.0 e in
     let same : t ≡ u = cc in
     let f : test_bytes t ++ tests_bytes tests ≡ test_bytes t ++ tests_bytes others = e ∙ ap (λ (v : Test). test_bytes v ++ tests_bytes others) (sym same) in
     let rest : tests_bytes tests ≡ tests_bytes others =

@@ -1,36 +1,87 @@
 -- What the writer answers by the reader's verdict. Assumes nothing.
 use Prim.Native.Nat.{ℕ, ◌≤◌, ◌<◌}
-use mathlib.Core.Path.{◌≡◌, sym, ◌∙◌}
-use mathlib.Core.List.{List}
+use mathlib.Core.Path.{◌≡◌, refl, sym, ap, ◌∙◌}
+use mathlib.Core.Bool.{Bool, true, false, cond}
+use mathlib.Core.List.{List, ◌++◌, append-nil}
 use native.Mathlib.Decide.{dec_le}
 use native.Mathlib.Nat.{lt_of_not-le}
 use native.Mathlib.Omega.{arith}
 use borrow.Author.Tests.{le-leb, lt-leb, lt-ltb}
-use lib.ListN.{length, take, replicate, length-replicate}
-use lib.Seq.{length-take-le}
+use lib.Dec.{eqb}
+use lib.ListN.{length, drop_of_length-le}
 use lib.IntN.{ℤ}
-use Rattle.book.specs.declared.reader.BookAnswer.TheVariants as a
+use denote.Enum.Bare.{sameb}
+use Rattle.std.specs.Prelude.{Ok, Err}
+use Rattle.numbers.specs.Spliced.{spliced}
+use Rattle.numbers.proofs.Spliced.{spliced_front}
+use Rattle.book.specs.contracts.refusal.Cause.{the_type}
+use Rattle.book.specs.declared.reader.BookSize.{BookSize}
+use Rattle.book.specs.declared.refusal.Cause.{Cause}
+use Rattle.book.specs.declared.refusal.Cause.TheVariants as why
+use Rattle.book.specs.declared.refusal.Refusal.{Refusal}
+use Rattle.book.specs.Refusals.{number_of, refusal}
 use Rattle.book.specs.Read.{BookRead, accepted, refused, answer_of, read_book}
-use Rattle.writer.specs.declared.write.WriteAnswer.TheVariants as w
-use Rattle.writer.specs.Layout.{laid_size, row_count, CountedTo}
+use Rattle.writer.specs.Layout.{laid, laid_size, row_count, unfit_at, CountedTo}
 use Rattle.writer.specs.Promise.{laid_out, mended, write_answer}
 use Rattle.writer.proofs.Laying.{length-laid}
 
+-- ---- the reader's refusal, mended
+
+-- 5 is the number of one cause alone
+is_five : (c : Cause) → sameb the_type c why.NumberNotAbove ≡ eqb (number_of c) 5
+is_five why.BookTooLong = refl
+is_five why.CutShort = refl
+is_five why.UnknownKind = refl
+is_five why.Misplaced = refl
+is_five why.NumberNotAbove = refl
+is_five why.BadBody = refl
+is_five why.TooMany = refl
+is_five why.LimitsOutside = refl
+is_five why.RoomTooShort = refl
+is_five why.RoomBroken = refl
+is_five why.AlreadyPresent = refl
+is_five why.NotPresent = refl
+is_five why.TooManyReadings = refl
+is_five why.TooManyTokens = refl
+is_five why.BufferTooShort = refl
+is_five why.NoSuchComplaint = refl
+is_five why.NoSuchRule = refl
+is_five why.NoSuchFile = refl
+is_five why.OutputTooShort = refl
+
+module _ (rows : List ℤ) (e : Refusal) (b : Bool) (same : b ≡ sameb the_type e.cause why.NumberNotAbove) where
+  pub mended-five : b ≡ true → unfit_at (row_count rows) rows e.place ≡ true → refusal why.BadBody e.place ≡ mended rows e
+  unfolding mended
+  mended-five t u = rw (sym (is_five e.cause) ∙ sym same ∙ t, u)
+
+  pub mended-fit : unfit_at (row_count rows) rows e.place ≡ false → e ≡ mended rows e
+  unfolding mended
+  mended-fit u = rw u (by (eqb (number_of e.cause) 5)) where
+    by : (f : Bool) → e ≡ cond f e e
+    by true = refl
+    by false = refl
+
+  pub mended-other : b ≡ false → e ≡ mended rows e
+  unfolding mended
+  mended-other f = rw (sym (is_five e.cause) ∙ sym same ∙ f)
+
+-- ---- the verdict
+
 module _ (rows : List ℤ) (size room : ℕ) where
-  pub write_refused : (read : BookRead) (number place : ℕ) → a.Refused number place ≡ answer_of read → w.Refused (mended rows number place) place ≡ write_answer rows read size room
+  pub write_refused : (read : BookRead) (e : Refusal) → Err e ≡ answer_of read → Err (mended rows e) ≡ write_answer rows read size room
   unfolding answer_of write_answer
-  write_refused (accepted rules) number place e = let z : ◌≡◌ {A = ℕ} 0 1 = cc in absurd (omega arith)
-  write_refused (refused n p) number place e = let f : number ≡ n = cc in let g : place ≡ p = cc in rw (f, g)
+  write_refused (accepted rules) e a = cc
+  write_refused (refused f) e a = cc
 
-  pub write_short : (read : BookRead) (rules conditions : ℕ) → a.Accepted rules conditions ≡ answer_of read → room < size → w.Refused 19 0 ≡ write_answer rows read size room
+  pub write_short : (read : BookRead) (n : BookSize) → Ok n ≡ answer_of read → room < size → Err (refusal why.OutputTooShort 0) ≡ write_answer rows read size room
   unfolding answer_of write_answer
-  write_short (accepted rules) n m e h = simp (lt-leb size room h)
-  write_short (refused number place) n m e h = let z : ◌≡◌ {A = ℕ} 0 1 = cc in absurd (omega arith)
+  write_short (accepted rules) n e h = simp (lt-leb size room h)
+  write_short (refused f) n e h = cc
 
-  pub write_fits : (read : BookRead) (rules conditions : ℕ) → a.Accepted rules conditions ≡ answer_of read → size ≤ room → w.Written size ≡ write_answer rows read size room
+  pub write_fits : (read : BookRead) (n : BookSize) → Ok n ≡ answer_of read → size ≤ room → Ok size ≡ write_answer rows read size room
   unfolding answer_of write_answer
-  write_fits (accepted rules) n m e h = simp (le-leb size room h)
-  write_fits (refused number place) n m e h = let z : ◌≡◌ {A = ℕ} 0 1 = cc in absurd (omega arith)
+  write_fits (accepted rules) n e h = simp (le-leb size room h)
+  write_fits (refused f) n e h = cc
 
 -- ---- a size that was counted up to the most
 
@@ -46,23 +97,22 @@ counted-above most size r c h = elim (dec_le size most) [
   | no w ↦ lt_of_not-le w
 ]
 
-length-filled : (n m : ℕ) → n ≤ m → n ≡ length (take n (replicate {A = ℕ} m 0))
-length-filled n m h = sym (length-take-le n (replicate m 0) (rw length-replicate h))
-
--- so many bytes of an array of 8,192
-pub counted_prefix : (n : ℕ) → n ≤ 8192 → n ≡ length (take n (replicate {A = ℕ} 8192 0))
-counted_prefix n h = length-filled n 8192 h
-
-pub counted_room : (size n : ℕ) → CountedTo 8192 size n → n ≤ 8192 → (size ≡ length (take n (replicate {A = ℕ} 8192 0))) × (length (take n (replicate {A = ℕ} 8192 0)) ≤ 8192)
-counted_room size n c h = let e = counted_prefix n h in (counted-within 8192 size n c h ∙ e, rw (← e) h)
+-- what fills the space counted for it is all that stands there
+pub laid-filled : (rows : List ℤ) (wordings : List ℕ) (n : ℕ) → CountedTo 8192 (laid_size (row_count rows) rows) n → n ≤ 8192 → (space space' : List ℕ) → length space ≡ n
+    → space' ≡ spliced space 0 (laid (row_count rows) rows wordings) → space' ≡ laid_out rows wordings
+unfolding laid_out
+laid-filled rows wordings n c h space space' e f =
+    let book = laid (row_count rows) rows wordings in
+    let long : length space ≤ length book = omega (arith, length-laid (row_count rows) rows wordings, counted-within 8192 _ n c h) in
+    f ∙ spliced_front space book ∙ ap (λ (l : List ℕ). book ++ l) (drop_of_length-le space long) ∙ append-nil book
 
 -- "book longer than 8,192 bytes"
-read-long : (book : List ℕ) → 8192 < length book → read_book book ≡ refused 1 0
+read-long : (book : List ℕ) → 8192 < length book → read_book book ≡ refused (refusal why.BookTooLong 0)
 unfolding read_book
 read-long book h = simp (lt-ltb 8192 (length book) h)
 
 pub write_long : (rows : List ℤ) (wordings : List ℕ) (room n : ℕ) → CountedTo 8192 (laid_size (row_count rows) rows) n → 8192 < n
-    → w.Refused 1 0 ≡ write_answer rows (read_book (laid_out rows wordings)) (length (laid_out rows wordings)) room
+    → Err (refusal why.BookTooLong 0) ≡ write_answer rows (read_book (laid_out rows wordings)) (length (laid_out rows wordings)) room
 unfolding laid_out write_answer mended
 write_long rows wordings room n c h =
     let long : 8192 < length (laid_out rows wordings) = rw (length-laid (row_count rows) rows wordings) (counted-above 8192 _ n c h) in

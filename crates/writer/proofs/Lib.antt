@@ -1,5 +1,3 @@
-pub mod FieldLaws
-pub mod RowLaws
 pub mod Numbers
 pub mod Put
 pub mod Laying

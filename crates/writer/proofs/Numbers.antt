@@ -1,10 +1,9 @@
--- Numbers and their bytes: eight bytes as two times four, the number that bytes are written again, and two's complement both ways.
--- Assumes nothing.
+-- Numbers and their bytes: the number that bytes are written again, and two's complement both ways. Assumes nothing.
 use Prim.Native.Nat.{ℕ, zero, suc, ◌+◌, ◌-◌, ◌*◌, ◌/◌, ◌%◌, ◌^◌, ◌≤◌, ◌<◌}
 use mathlib.Core.Path.{◌≡◌, refl, sym, ap, ◌∙◌}
 use mathlib.Core.Bool.{Bool, true, false}
 use mathlib.Core.List.{List, [], ◌∷◌, ◌++◌}
-use native.Mathlib.Nat.{add-zero, add-suc, mul_assoc, pow-suc, div-add-mod', div-div-eq-div-mul}
+use native.Mathlib.Nat.{add-zero, add-suc}
 use native.Mathlib.Omega.{arith}
 use borrow.Author.Tests.{lt-ltb, le-ltb, ltb-true, ltb-false}
 use lib.Dec.{ltb}
@@ -15,32 +14,6 @@ use lib.Signed.{mag}
 use Rattle.numbers.specs.BigEndian.{uint, bytes}
 use Rattle.numbers.specs.Signed.{signed}
 use Rattle.writer.specs.Fields.{bits}
-
--- ---- eight bytes are two times four
-
--- what stands above n bytes is not seen in them
-bytes-over : (n q m : ℕ) → bytes n (q * 256 ^ n + m) ≡ bytes n m
-unfolding bytes
-bytes-over zero q m = refl
-bytes-over (suc n) q m =
-    let w = q * 256 ^ n in
-    let up : q * 256 ^ suc n ≡ w * 256 = ap (λ (k : ℕ). q * k) (pow-suc 256 n) ∙ sym (mul_assoc q (256 ^ n) 256) in
-    let high : (w * 256 + m) / 256 ≡ w + m / 256 = omega arith in
-    let low : (w * 256 + m) % 256 ≡ m % 256 = omega arith in
-    rw (up, high, low, bytes-over n q (m / 256))
-
-bytes_split : (x : ℕ) → bytes 4 (x / 256 / 256 / 256 / 256) ++ bytes 4 x ≡ bytes 8 x
-unfolding bytes
-bytes_split x = refl
-
-pub bytes-eight : (x : ℕ) → bytes 4 (x / 4294967296) ++ bytes 4 (x % 4294967296) ≡ bytes 8 x
-bytes-eight x =
-    let q = x / 4294967296 in
-    let m = x % 4294967296 in
-    let high : x / 256 / 256 / 256 / 256 ≡ q =
-    div-div-eq-div-mul (x / 256 / 256) 256 256 ∙ div-div-eq-div-mul (x / 256) 256 65536 ∙ div-div-eq-div-mul x 256 16777216 in
-    let low : bytes 4 m ≡ bytes 4 x = sym (bytes-over 4 q m) ∙ ap (bytes 4) (div-add-mod' x 4294967296) in
-    rw (low, ← high) (bytes_split x)
 
 -- ---- the number that bytes are, in bytes again
 

@@ -1,24 +1,31 @@
--- Bytes stored one behind the other, and a part written behind another: each is one part written over.
--- Assumes nothing.
+-- Parts written one behind another are one part written over, and the 64 bits of a signed number as the code has them. Assumes nothing.
 use Prim.Native.Nat.{ℕ, ◌+◌, ◌≤◌}
-use mathlib.Core.Path.{◌≡◌, ap, ◌∙◌}
-use mathlib.Core.List.{List, [], ◌∷◌, ◌++◌}
-use native.Mathlib.Numerals.{add-one, add-two, add-three, add-four}
-use native.Mathlib.Omega.{arith}
-use lib.ListN.{length, set}
+use mathlib.Core.Path.{◌≡◌, refl, ap, ◌∙◌}
+use mathlib.Core.List.{List, ◌++◌}
+use borrow.Rule.Slice.PartMut.{put_mid}
+use lib.IntN.{ℤ, pos, negsuc}
+use lib.ListN.{length}
+use mir.Syntax.{w64}
+use mir.Val.{SFits, to_z, of_z}
+use mir.Facts.{to_z-of_z}
 use Rattle.numbers.specs.Spliced.{spliced}
-use Rattle.numbers.proofs.Spliced.{sets_spliced, spliced_twice}
+use Rattle.numbers.proofs.Spliced.{put_mid-spliced, spliced_twice}
+use Rattle.writer.specs.Fields.{bits}
 
 module _ {A : Type 0} (out : List A) (at : ℕ) where
-  pub three_put : (a b c : A) → at + 3 ≤ length out → set (set (set out at a) (at + 1) b) (at + 2) c ≡ spliced out at (a ∷ b ∷ c ∷ [])
-  three_put a b c h = rw (add-one, add-two) (sets_spliced out at (a ∷ b ∷ c ∷ []) (omega arith))
-
-  pub four_put : (a b c d : A) → at + 4 ≤ length out → set (set (set (set out at a) (at + 1) b) (at + 2) c) (at + 3) d ≡ spliced out at (a ∷ b ∷ c ∷ d ∷ [])
-  four_put a b c d h = rw (add-one, add-two, add-three) (sets_spliced out at (a ∷ b ∷ c ∷ d ∷ []) (omega arith))
-
-  pub five-put : (a b c d e : A) → at + 5 ≤ length out → set (set (set (set (set out at a) (at + 1) b) (at + 2) c) (at + 3) d) (at + 4) e ≡ spliced out at (a ∷ b ∷ c ∷ d ∷ e ∷ [])
-  five-put a b c d e h = rw (add-one, add-two, add-three, add-four) (sets_spliced out at (a ∷ b ∷ c ∷ d ∷ e ∷ []) (omega arith))
+  -- the part that was lent holds zs
+  pub put : (k : ℕ) (ys zs : List A) → ys ≡ zs → length zs ≡ k → put_mid at k out ys ≡ spliced out at zs
+  put k ys zs e h = ap (put_mid at k out) e ∙ put_mid-spliced at k out zs h
 
   -- a part behind what was written
   pub behind : (xs ys : List A) (to : ℕ) {l : List A} {r : List A} → at ≤ length out → l ≡ spliced out at xs → to ≡ at + length xs → r ≡ spliced l to ys → r ≡ spliced out at (xs ++ ys)
   behind xs ys to {l} {r} h e t f = f ∙ ap (λ (k : List A). spliced k to ys) e ∙ spliced_twice out at xs h to ys t
+
+-- the bits of a signed number
+bits-cast : (z : ℤ) → of_z w64 z ≡ bits z
+unfolding bits
+bits-cast (pos n) = refl
+bits-cast (negsuc n) = refl
+
+pub bits-read : (z : ℤ) (n : ℕ) → SFits w64 z → n ≡ of_z w64 (to_z w64 (of_z w64 z)) → n ≡ bits z
+bits-read z n f e = e ∙ ap (of_z w64) (to_z-of_z {w = w64} f) ∙ bits-cast z

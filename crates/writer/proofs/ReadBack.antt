@@ -9,6 +9,7 @@ use borrow.Author.Tests.{le-ltb, lt-leb, le-leb, ne_eqb, eq-eqb}
 use lib.Dec.{leb, ltb, eqb}
 use lib.ListN.{length, drop, length-append}
 use lib.Seq.{drop-drop, drop_at, take_at}
+use Rattle.std.specs.Prelude.{Ok}
 use Rattle.numbers.specs.BigEndian.{uint, bytes}
 use Rattle.numbers.proofs.BigEndian.{length-bytes, uint-bytes}
 use Rattle.book.specs.declared.judgement.Standing.{Standing}
@@ -16,7 +17,7 @@ use Rattle.book.specs.declared.record.Record.{Record}
 use Rattle.book.specs.declared.record.Record.TheVariants as r
 use Rattle.book.specs.declared.record.Test.{Test}
 use Rattle.book.specs.Record.{rule_body, by_kind, record_at, test_size, size_of}
-use Rattle.book.specs.Judgement.{printable, wording_of, test_fits, unfinished, rule_judged, condition_judged, test_judged, end_judged, judged}
+use Rattle.book.specs.Judgement.{Judged, taken, printable, wording_of, test_fits, unfinished, rule_judged, condition_judged, test_judged, end_judged, judged}
 use Rattle.book.specs.Rules.{Rule, no_rule, last_or, on_last, with_condition, with_test, standing, tests_size, conditions_size, rules_size}
 use Rattle.book.specs.Read.{BookRead, accepted, unless, grown, bytes_of, ended, turn, walk, read_book}
 use Rattle.book.specs.Stands.{Laid}
@@ -61,25 +62,25 @@ length-rules_bytes (rule ∷ rules) k =
 
 -- ---- a record that is taken
 
-test_judged_lem : (s : Standing) (t : Test) → 0 < s.conditions → s.tests < 8 → test_fits t (s.conditions - 1) ≡ true → test_judged s t ≡ 0
+test_judged_lem : (s : Standing) (t : Test) → 0 < s.conditions → s.tests < 8 → test_fits t (s.conditions - 1) ≡ true → test_judged s t ≡ taken
 unfolding test_judged
 test_judged_lem s t some room fit = simp (ne_eqb s.conditions 0 (λ (z : s.conditions ≡ 0). omega arith), lt-leb 8 s.tests room, fit)
 
-condition_judged_lem : (s : Standing) → 0 < s.rules → s.conditions < 6 → condition_judged s ≡ 0
+condition_judged_lem : (s : Standing) → 0 < s.rules → s.conditions < 6 → condition_judged s ≡ taken
 unfolding condition_judged
 condition_judged_lem s some room = simp (ne_eqb s.rules 0 (λ (z : s.rules ≡ 0). omega arith), lt-leb 6 s.conditions room)
 
-rule-judged : (s : Standing) (number : ℕ) (body : List ℕ) → unfinished s ≡ false → s.rules < 32 → s.last < number → printable (wording_of body) ≡ true → rule_judged s number body ≡ 0
+rule-judged : (s : Standing) (number : ℕ) (body : List ℕ) → unfinished s ≡ false → s.rules < 32 → s.last < number → printable (wording_of body) ≡ true → rule_judged s number body ≡ taken
 unfolding rule_judged
 rule-judged s number body done room above printed = simp (done, lt-leb 32 s.rules room, lt-leb number s.last above, printed)
 
-end-judged : (s : Standing) → unfinished s ≡ false → end_judged s ≡ 0
+end-judged : (s : Standing) → unfinished s ≡ false → end_judged s ≡ taken
 unfolding end_judged
 end-judged s done = rw done
 
-unless-none : (number place : ℕ) (on : BookRead) → number ≡ 0 → unless number place on ≡ on
+unless_taken : (j : Judged) (place : ℕ) (on : BookRead) → j ≡ taken → unless j place on ≡ on
 unfolding unless
-unless-none number place on e = rw e
+unless_taken j place on e = rw e
 
 on_last_snoc : {A : Type 0} (f : A → A) (l : List A) (a : A) → on_last f (l ++ a ∷ []) ≡ l ++ f a ∷ []
 unfolding on_last
@@ -91,12 +92,12 @@ on_last_snoc {A} f (b ∷ (c ∷ l)) a = ap (λ (k : List A). b ∷ k) (on_last_
 abbrev rule_of : ℕ → List ℕ → List (List Test) → Rule
 rule_of n w cs = record { number = n; wording = w; conditions = cs }
 
-rule_body_lem : (number : ℕ) (wording rest : List ℕ) (at : ℕ) → number < 65536 → length wording ≡ 24 → by_kind 1 ((bytes 2 number ++ wording) ++ rest) at ≡ r.Rule number
+rule_body_lem : (number : ℕ) (wording rest : List ℕ) (at : ℕ) → number < 65536 → length wording ≡ 24 → by_kind 1 ((bytes 2 number ++ wording) ++ rest) at ≡ Ok (r.Rule number)
 unfolding by_kind rule_body
 rule_body_lem number wording rest at h long =
     let body : List ℕ = (bytes 2 number ++ wording) ++ rest in
     let all : 26 ≤ length body = omega (arith, length-append (bytes 2 number ++ wording) rest, length-append (bytes 2 number) wording, length-bytes 2 number) in
-    sym (whole_is 26 at body _ all) ∙ ap r.Rule (ap (λ (b : List ℕ). uint 2 b 0) (append_assoc (bytes 2 number) wording rest) ∙ uint-bytes 2 number (wording ++ rest) h)
+    sym (whole_is 26 at body _ all) ∙ ap (λ (n : ℕ). Ok (r.Rule n)) (ap (λ (b : List ℕ). uint 2 b 0) (append_assoc (bytes 2 number) wording rest) ∙ uint-bytes 2 number (wording ++ rest) h)
 
 rule_words : (number : ℕ) (wording rest : List ℕ) → length wording ≡ 24 → wording_of ((bytes 2 number ++ wording) ++ rest) ≡ wording
 unfolding wording_of
@@ -119,14 +120,14 @@ module _ (book : List ℕ) where
   behind : (at n : ℕ) (xs rest : List ℕ) → length xs ≡ n → drop at book ≡ xs ++ rest → drop (at + n) book ≡ rest
   behind at n xs rest h e = sym (drop-drop n at book) ∙ ap (drop n) e ∙ drop_at xs rest n h
 
-  walk_turn : (most at : ℕ) (rules : List Rule) (rec : Record) → record_at book at ≡ rec → walk (suc most) book at rules ≡ turn book at rules rec (λ rules'. walk most book (at + bytes_of (size_of rec)) rules')
+  walk_turn : (most at : ℕ) (rules : List Rule) (rec : Record) → record_at book at ≡ Ok rec → walk (suc most) book at rules ≡ turn book at rules (Ok rec) (λ rules'. walk most book (at + bytes_of (Ok rec)) rules')
   unfolding walk
   walk_turn most at rules rec e = rw e
 
   module _ (pre : List Rule) (n : ℕ) (w : List ℕ) where
     -- ---- one test more
 
-    walk_test : (most at : ℕ) (cs : List (List Test)) (ts : List Test) (t : Test) → record_at book at ≡ r.Test t → test_fits t (length cs) ≡ true → length ts < 8
+    walk_test : (most at : ℕ) (cs : List (List Test)) (ts : List Test) (t : Test) → record_at book at ≡ Ok (r.Test t) → test_fits t (length cs) ≡ true → length ts < 8
         → walk (suc most) book at (pre ++ rule_of n w (cs ++ ts ∷ []) ∷ []) ≡ walk most book (at + test_size t) (pre ++ rule_of n w (cs ++ (ts ++ t ∷ []) ∷ []) ∷ [])
     unfolding turn judged grown bytes_of size_of standing with_test
     walk_test most at cs ts t e fit room =
@@ -135,10 +136,10 @@ module _ (book : List ℕ) where
         let many : length (last_or no_rule (pre ++ rule ∷ [])).conditions ≡ length cs + 1 = ap (λ (q : Rule). length q.conditions) last ∙ length-append cs (ts ∷ []) in
         let tests : length (last_or [] (last_or no_rule (pre ++ rule ∷ [])).conditions) ≡ length ts = ap (λ (q : Rule). length (last_or [] q.conditions)) last ∙ ap length (last_or_snoc [] cs ts) in
         let own : length (last_or no_rule (pre ++ rule ∷ [])).conditions - 1 ≡ length cs = omega arith in
-        let j : test_judged (standing (pre ++ rule ∷ [])) t ≡ 0 = test_judged_lem (standing (pre ++ rule ∷ [])) t (omega arith) (omega arith) (rw own fit) in
+        let j : test_judged (standing (pre ++ rule ∷ [])) t ≡ taken = test_judged_lem (standing (pre ++ rule ∷ [])) t (omega arith) (omega arith) (rw own fit) in
         let put : List Test → List Test = λ tests. tests ++ t ∷ [] in
         walk_turn most at (pre ++ rule ∷ []) (r.Test t) e
-        ∙ unless-none _ at _ j
+        ∙ unless_taken _ at _ j
         ∙ ap (walk most book (at + test_size t)) (on_last_snoc (with_test t) pre rule ∙ ap (λ (c : List (List Test)). pre ++ rule_of n w c ∷ []) (on_last_snoc put cs ts))
 
     walk-tests : (tests : List Test) (m at : ℕ) (cs : List (List Test)) (ts : List Test) (rest : List ℕ) → drop at book ≡ tests_bytes tests ++ rest → All Held tests
@@ -158,15 +159,15 @@ module _ (book : List ℕ) where
 
     -- ---- one condition more, with its tests
 
-    walk_condition : (most at : ℕ) (cs : List (List Test)) → record_at book at ≡ r.Condition → length cs < 6
+    walk_condition : (most at : ℕ) (cs : List (List Test)) → record_at book at ≡ Ok r.Condition → length cs < 6
         → walk (suc most) book at (pre ++ rule_of n w cs ∷ []) ≡ walk most book (at + 1) (pre ++ rule_of n w (cs ++ [] ∷ []) ∷ [])
     unfolding turn judged grown bytes_of size_of standing with_condition
     walk_condition most at cs e room =
         let rule = rule_of n w cs in
         let last : last_or no_rule (pre ++ rule ∷ []) ≡ rule = last_or_snoc no_rule pre rule in
         let many : length (last_or no_rule (pre ++ rule ∷ [])).conditions ≡ length cs = ap (λ (q : Rule). length q.conditions) last in
-        let j : condition_judged (standing (pre ++ rule ∷ [])) ≡ 0 = condition_judged_lem (standing (pre ++ rule ∷ [])) (omega (arith, length-append pre (rule ∷ []))) (omega arith) in
-        walk_turn most at (pre ++ rule ∷ []) r.Condition e ∙ unless-none _ at _ j ∙ ap (walk most book (at + 1)) (on_last_snoc with_condition pre rule)
+        let j : condition_judged (standing (pre ++ rule ∷ [])) ≡ taken = condition_judged_lem (standing (pre ++ rule ∷ [])) (omega (arith, length-append pre (rule ∷ []))) (omega arith) in
+        walk_turn most at (pre ++ rule ∷ []) r.Condition e ∙ unless_taken _ at _ j ∙ ap (walk most book (at + 1)) (on_last_snoc with_condition pre rule)
 
     walk-conditions : (conditions : List (List Test)) (m at : ℕ) (cs : List (List Test)) (rest : List ℕ) → drop at book ≡ conditions_bytes conditions ++ rest → All (All Held) conditions
         → Laid (λ tests. 1) ConditionKept (length cs) conditions → length cs + length conditions ≤ 6
@@ -196,11 +197,11 @@ module _ (book : List ℕ) where
   unfolding turn judged grown bytes_of size_of standing
   walk-rule most at rules number wording rest e h long done room above printed =
       let body : List ℕ = (bytes 2 number ++ wording) ++ rest in
-      let read : record_at book at ≡ r.Rule number = record_at-drop book at 1 body e ∙ rule_body_lem number wording rest at h long in
+      let read : record_at book at ≡ Ok (r.Rule number) = record_at-drop book at 1 body e ∙ rule_body_lem number wording rest at h long in
       let behind-kind : drop (at + 1) book ≡ body = behind at 1 (1 ∷ []) body refl e in
       let words : wording_of (drop (at + 1) book) ≡ wording = ap wording_of behind-kind ∙ rule_words number wording rest long in
-      let j : rule_judged (standing rules) number (drop (at + 1) book) ≡ 0 = rule-judged (standing rules) number (drop (at + 1) book) done room above (rw words printed) in
-      walk_turn most at rules (r.Rule number) read ∙ unless-none _ at _ j ∙ rw words
+      let j : rule_judged (standing rules) number (drop (at + 1) book) ≡ taken = rule-judged (standing rules) number (drop (at + 1) book) done room above (rw words printed) in
+      walk_turn most at rules (r.Rule number) read ∙ unless_taken _ at _ j ∙ rw words
 
   walk-rules : (rules : List Rule) (m at : ℕ) (pre : List Rule) (rest : List ℕ) → drop at book ≡ rules_bytes rules ++ rest → All RuleHeld rules → All RuleKept rules
       → All (λ rule. 0 < length rule.conditions) rules → Ascending (last_or no_rule pre).number rules → unfinished (standing pre) ≡ false → length pre + length rules ≤ 32
@@ -243,7 +244,7 @@ read-written rules k h room =
     let fuel : length book + 1 ≡ length (records_of rules) + suc most = omega arith in
     let walked = walk-rules book rules (suc most) 0 [] (9 ∷ []) refl h k.each k.some k.ascending refl (omega (arith, k.most)) in
     let at : drop size book ≡ 9 ∷ [] = ap (λ (p : ℕ). drop p book) (sym (zero-add size)) ∙ behind book 0 size (rules_bytes rules) (9 ∷ []) (length-rules_bytes rules k.each) refl in
-    let end : record_at book size ≡ r.End = record_at-drop book size 9 [] at in
+    let end : record_at book size ≡ Ok r.End = record_at-drop book size 9 [] at in
     let over : eqb (size + 1) (length book) ≡ true = eq-eqb (size + 1) (length book) (sym long) in
     let limit : ltb 8192 (length book) ≡ false = le-ltb 8192 (length book) room in
-    rw (limit, fuel) (walked.0 ∙ ap (λ (p : ℕ). walk (suc most) book p rules) (zero-add size) ∙ walk_turn book most size rules r.End end ∙ unless-none _ size _ (end-judged (standing rules) walked.1) ∙ rw over)
+    rw (limit, fuel) (walked.0 ∙ ap (λ (p : ℕ). walk (suc most) book p rules) (zero-add size) ∙ walk_turn book most size rules r.End end ∙ unless_taken _ size _ (end-judged (standing rules) walked.1) ∙ rw over)

@@ -14,6 +14,9 @@ use lib.IntN.{ℤ}
 use Rattle.numbers.specs.BigEndian.{uint, bytes}
 use Rattle.numbers.specs.Spliced.{spliced}
 use Rattle.numbers.proofs.BigEndian.{uint-below}
+use Rattle.std.specs.Prelude.{Result, Ok, Err}
+use Rattle.book.specs.declared.refusal.Cause.{Cause}
+use Rattle.book.specs.declared.refusal.Refusal.{Refusal}
 use Rattle.book.specs.declared.record.Record.{Record}
 use Rattle.book.specs.declared.record.Record.TheVariants as r
 use Rattle.book.specs.declared.record.Test.{Test}
@@ -25,11 +28,9 @@ use Rattle.book.specs.Limits.{All, RuleKept}
 use Rattle.book.specs.Stands.{TestsStand, ConditionsStand, RulesStand}
 use Rattle.book.proofs.Limits.{read_kept}
 use Rattle.book.proofs.Stands.{read-stands}
-use Rattle.writer.specs.declared.write.WriteAnswer.{WriteAnswer}
-use Rattle.writer.specs.declared.write.WriteAnswer.TheVariants as w
 use Rattle.writer.specs.Fields.{fits, clamped}
 use Rattle.writer.specs.Rows.{constant_of, position_of, gap_of, record_by, record_of, is_rule}
-use Rattle.writer.specs.Bytes.{test_bytes, record_bytes, tests_bytes, condition_bytes, conditions_bytes, rule_bytes, rules_bytes, book_bytes}
+use Rattle.writer.specs.Bytes.{test_bytes, record_bytes, said_bytes, tests_bytes, condition_bytes, conditions_bytes, rule_bytes, rules_bytes, book_bytes}
 use Rattle.writer.specs.Layout.{first_wording, wording_for, row_bytes, wording_size, laid}
 use Rattle.writer.specs.Values.{test_row, row_of, test_records, condition_records, records_of, rows_of_records, rows_of, joined, wordings_of}
 use Rattle.writer.specs.Held.{Held, RuleHeld}
@@ -41,7 +42,7 @@ use Rattle.writer.proofs.Written.{written_read}
 
 -- ---- the row of a value says that value
 
-test_said : (t : Test) (rest : List ℤ) → Held t → record_of (test_row t ++ rest) ≡ r.Test t
+test_said : (t : Test) (rest : List ℤ) → Held t → record_of (test_row t ++ rest) ≡ Ok (r.Test t)
 unfolding test_row record_of record_by constant_of position_of gap_of clamped fits
 test_said (Constant p q n) rest h =
     let hp : leb p 255 ≡ true = le-leb p 255 (omega arith) in
@@ -63,18 +64,18 @@ test_said (Gap p c o low high) rest h =
 -- ---- and is laid out as its bytes
 
 laid_test : (n : ℕ) (t : Test) (rest : List ℤ) (words : List ℕ) → Held t → laid (suc n) (test_row t ++ rest) words ≡ test_bytes t ++ laid n rest words
-unfolding laid row_bytes record_bytes wording_size is_rule clamped test_row
-laid_test n (Constant p q m) rest words h = ap (λ (rec : Record). record_bytes rec (wording_for (test_row (Constant p q m) ++ rest) words) ++ laid n rest words) (test_said (Constant p q m) rest h)
-laid_test n (Position p q c o) rest words h = ap (λ (rec : Record). record_bytes rec (wording_for (test_row (Position p q c o) ++ rest) words) ++ laid n rest words) (test_said (Position p q c o) rest h)
-laid_test n (Gap p c o low high) rest words h = ap (λ (rec : Record). record_bytes rec (wording_for (test_row (Gap p c o low high) ++ rest) words) ++ laid n rest words) (test_said (Gap p c o low high) rest h)
+unfolding laid row_bytes said_bytes record_bytes wording_size is_rule clamped test_row
+laid_test n (Constant p q m) rest words h = ap (λ (said : Result Record Cause). said_bytes said (wording_for (test_row (Constant p q m) ++ rest) words) ++ laid n rest words) (test_said (Constant p q m) rest h)
+laid_test n (Position p q c o) rest words h = ap (λ (said : Result Record Cause). said_bytes said (wording_for (test_row (Position p q c o) ++ rest) words) ++ laid n rest words) (test_said (Position p q c o) rest h)
+laid_test n (Gap p c o low high) rest words h = ap (λ (said : Result Record Cause). said_bytes said (wording_for (test_row (Gap p c o low high) ++ rest) words) ++ laid n rest words) (test_said (Gap p c o low high) rest h)
 
 laid_condition : (n : ℕ) (rest : List ℤ) (words : List ℕ) → laid (suc n) (row_of r.Condition ++ rest) words ≡ 2 ∷ laid n rest words
-unfolding laid row_bytes record_bytes record_of record_by row_of clamped wording_size is_rule
+unfolding laid row_bytes said_bytes record_bytes record_of record_by row_of clamped wording_size is_rule
 laid_condition n rest words = refl
 
 laid-rule : (n m : ℕ) (rest : List ℤ) (wording words : List ℕ) → m < 2 ^ 16 → length wording ≡ 24
     → laid (suc n) (row_of (r.Rule m) ++ rest) (wording ++ words) ≡ (1 ∷ (bytes 2 m ++ wording)) ++ laid n rest words
-unfolding laid row_bytes record_bytes record_of record_by row_of clamped fits wording_for first_wording wording_size is_rule
+unfolding laid row_bytes said_bytes record_bytes record_of record_by row_of clamped fits wording_for first_wording wording_size is_rule
 laid-rule n m rest wording words h e =
     let hm : leb m 65535 ≡ true = le-leb m 65535 (omega arith) in
     let whole : leb 24 (length (wording ++ words)) ≡ true = le-leb 24 (length (wording ++ words)) (omega (arith, length-append wording words)) in
@@ -146,14 +147,14 @@ laid_out_values rules h k =
 
 -- ---- the values of an accepted book fit their fields
 
-abbrev RecordHeld : Record → Type 0
-RecordHeld (r.Rule n) = n < 2 ^ 16
-RecordHeld r.Condition = Unit {0}
-RecordHeld (r.Test t) = Held t
-RecordHeld r.End = Unit {0}
-RecordHeld (r.Refused n p) = Unit {0}
+abbrev RecordHeld : Result Record Refusal → Type 0
+RecordHeld (Ok (r.Rule n)) = n < 2 ^ 16
+RecordHeld (Ok r.Condition) = Unit {0}
+RecordHeld (Ok (r.Test t)) = Held t
+RecordHeld (Ok r.End) = Unit {0}
+RecordHeld (Err e) = Unit {0}
 
-held_cond : (b : Bool) (x y : Record) → RecordHeld x → RecordHeld y → RecordHeld (cond b x y)
+held_cond : (b : Bool) (x y : Result Record Refusal) → RecordHeld x → RecordHeld y → RecordHeld (cond b x y)
 held_cond true x y p q = p
 held_cond false x y p q = q
 
@@ -194,13 +195,13 @@ module _ (book : List ℕ) (byte : AllBytes book) where
   laid_out-read rules e = laid_out_values rules (read_held rules e) (read_kept book rules e).each ∙ sym (written_read book byte rules e)
 
   -- "any accepted book, read and written, must come out byte for byte": from the rows of its values, into a buffer that has room for it
-  pub returned : (rules : List Rule) → read_book book ≡ accepted rules → (buffer : List ℕ) (answer : WriteAnswer) (left : List ℕ) → length book ≤ length buffer
-      → Writes (rows_of rules) (wordings_of rules) buffer answer left → (answer ≡ w.Written (length book)) × (left ≡ spliced buffer 0 book)
+  pub returned : (rules : List Rule) → read_book book ≡ accepted rules → (buffer : List ℕ) (answer : Result ℕ Refusal) (left : List ℕ) → length book ≤ length buffer
+      → Writes (rows_of rules) (wordings_of rules) buffer answer left → (answer ≡ Ok (length book)) × (left ≡ spliced buffer 0 book)
   unfolding write_answer buffer_left
   returned rules e buffer answer left h writes =
       let same = laid_out-read rules e in
       let room : leb (length book) (length buffer) ≡ true = le-leb (length book) (length buffer) h in
       let answered : answer ≡ write_answer (rows_of rules) (read_book book) (length book) (length buffer) = rw same at writes.answered in
       let written : left ≡ buffer_left answer book buffer = rw same at writes.written in
-      let accepted' : answer ≡ w.Written (length book) = answered ∙ rw (e, room) in
-      (accepted', written ∙ ap (λ (a : WriteAnswer). buffer_left a book buffer) accepted')
+      let accepted' : answer ≡ Ok (length book) = answered ∙ rw (e, room) in
+      (accepted', written ∙ ap (λ (a : Result ℕ Refusal). buffer_left a book buffer) accepted')

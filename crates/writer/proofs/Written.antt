@@ -7,6 +7,7 @@ use native.Mathlib.Nat.{add-zero, zero-add}
 use native.Mathlib.Omega.{arith}
 use lib.ListN.{drop}
 use lib.Seq.{drop-length}
+use Rattle.std.specs.Prelude.{Ok}
 use Rattle.numbers.specs.BigEndian.{bytes}
 use Rattle.book.specs.declared.record.Record.TheVariants as r
 use Rattle.book.specs.declared.record.Test.{Test}
@@ -24,7 +25,7 @@ joined : (xs ys zs : List ℕ) {l m : List ℕ} → l ≡ xs ++ m → m ≡ ys +
 joined xs ys zs e f = e ∙ ap (λ (k : List ℕ). xs ++ k) f ∙ sym (append_assoc xs ys zs)
 
 module _ (book : List ℕ) (byte : AllBytes book) where
-  test_bytes_lem : (at : ℕ) (t : Test) → record_at book at ≡ r.Test t → drop at book ≡ test_bytes t ++ drop (at + test_size t) book
+  test_bytes_lem : (at : ℕ) (t : Test) → record_at book at ≡ Ok (r.Test t) → drop at book ≡ test_bytes t ++ drop (at + test_size t) book
   unfolding record_bytes size_of test_size
   test_bytes_lem at (Constant p q n) e = record_at-bytes book byte at 6 (r.Test (Constant p q n)) e refl
   test_bytes_lem at (Position p q c o) e = record_at-bytes book byte at 4 (r.Test (Position p q c o)) e refl

@@ -1,10 +1,11 @@
 -- The bytes of a book's values. "One byte of kind, then a body"; "numbers are big-endian; signed ones are two's complement". Assumes nothing: these are definitions.
-use Rattle.std.specs.Prelude.{ℕ, List, [], ◌∷◌, ◌++◌}
+use Rattle.std.specs.Prelude.{ℕ, List, [], ◌∷◌, ◌++◌, Result, Ok, Err}
 use Rattle.numbers.specs.BigEndian.{bytes}
 use Rattle.book.specs.declared.record.Record.{Record}
 use Rattle.book.specs.declared.record.Record.TheVariants as r
 use Rattle.book.specs.declared.record.Test.{Test}
 use Rattle.book.specs.declared.record.Test.TheVariants.{Constant, Position, Gap}
+use Rattle.book.specs.declared.refusal.Cause.{Cause}
 use Rattle.book.specs.Rules.{Rule}
 use Rattle.writer.specs.Fields.{bits}
 
@@ -13,13 +14,17 @@ test_bytes (Constant place relation number) = 3 ∷ place ∷ relation ∷ bytes
 test_bytes (Position place relation condition other) = 4 ∷ place ∷ relation ∷ condition ∷ other ∷ []
 test_bytes (Gap place condition other low high) = 5 ∷ place ∷ condition ∷ other ∷ (bytes 8 (bits low) ++ bytes 8 (bits high))
 
--- a rule's with its wording; a refused record is a kind that no record has
+-- a rule's with its wording
 unfoldable pub record_bytes : Record → List ℕ → List ℕ
 record_bytes (r.Rule number) wording = 1 ∷ (bytes 2 number ++ wording)
 record_bytes r.Condition wording = 2 ∷ []
 record_bytes (r.Test t) wording = test_bytes t
 record_bytes r.End wording = 9 ∷ []
-record_bytes (r.Refused number place) wording = 0 ∷ []
+
+-- of what a row says; a refused record is a kind that no record has
+unfoldable pub said_bytes : Result Record Cause → List ℕ → List ℕ
+said_bytes (Ok r) wording = record_bytes r wording
+said_bytes (Err cause) wording = 0 ∷ []
 
 unfoldable pub tests_bytes : List Test → List ℕ
 tests_bytes [] = []

@@ -2,7 +2,7 @@
 use Rattle.std.specs.Prelude.{ℕ, zero, suc, ◌-◌, ◌+◌, ◌/◌, ◌≤◌, ◌<◌, ◌≡◌, Bool, false, cond, List, [], ◌∷◌, ◌++◌, leb, length, take, drop, replicate, ℤ}
 use Rattle.writer.specs.Fields.{fits}
 use Rattle.writer.specs.Rows.{number, record_of, row_size, is_rule, unfit_rule}
-use Rattle.writer.specs.Bytes.{record_bytes}
+use Rattle.writer.specs.Bytes.{said_bytes}
 
 -- bytes that the reader refuses with 6
 abbrev pub no_wording : List ℕ
@@ -17,7 +17,7 @@ unfoldable pub wording_for : List ℤ → List ℕ → List ℕ
 wording_for row wordings = cond (fits 65535 (number row 1)) (first_wording wordings) no_wording
 
 unfoldable pub row_bytes : List ℤ → List ℕ → List ℕ
-row_bytes row wordings = record_bytes (record_of row) (wording_for row wordings)
+row_bytes row wordings = said_bytes (record_of row) (wording_for row wordings)
 
 -- how many bytes of wordings a row takes
 unfoldable pub wording_size : List ℤ → ℕ

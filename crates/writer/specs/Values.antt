@@ -1,10 +1,11 @@
 -- The rows of a book's values. Assumes nothing: these are definitions.
-use Rattle.std.specs.Prelude.{ℕ, zero, suc, ◌+◌, List, [], ◌∷◌, ◌++◌, map, length, take, drop, ℤ, pos}
+use Rattle.std.specs.Prelude.{ℕ, zero, suc, ◌+◌, List, [], ◌∷◌, ◌++◌, map, length, take, drop, ℤ, pos, Result, Ok, Err}
 use Rattle.book.specs.declared.record.Record.{Record}
 use Rattle.book.specs.declared.record.Record.TheVariants as r
 use Rattle.book.specs.declared.record.Test.{Test}
 use Rattle.book.specs.declared.record.Test.TheVariants.{Constant, Position, Gap}
-use Rattle.book.specs.Record.{record_at, size_of}
+use Rattle.book.specs.declared.refusal.Refusal.{Refusal}
+use Rattle.book.specs.Record.{record_at}
 use Rattle.book.specs.Rules.{Rule}
 use Rattle.book.specs.Read.{bytes_of}
 
@@ -22,7 +23,6 @@ row_of (r.Rule number) = six (pos 1) (pos number) (pos 0) (pos 0) (pos 0) (pos 0
 row_of r.Condition = six (pos 2) (pos 0) (pos 0) (pos 0) (pos 0) (pos 0)
 row_of (r.Test t) = test_row t
 row_of r.End = six (pos 9) (pos 0) (pos 0) (pos 0) (pos 0) (pos 0)
-row_of (r.Refused number place) = six (pos 0) (pos 0) (pos 0) (pos 0) (pos 0) (pos 0)
 
 -- the records of a book before its end, in their order
 unfoldable pub test_records : List Test → List Record
@@ -57,17 +57,17 @@ wordings_of rules = joined (map (λ rule. rule.wording) rules)
 -- ---- the same, read straight from a book
 
 -- the end record, and one that cannot be taken apart, end the list
-unfoldable pub goes_on : Record → List Record → List Record
-goes_on (r.Rule number) more = r.Rule number ∷ more
-goes_on r.Condition more = r.Condition ∷ more
-goes_on (r.Test t) more = r.Test t ∷ more
-goes_on r.End more = []
-goes_on (r.Refused number place) more = []
+unfoldable pub goes_on : Result Record Refusal → List Record → List Record
+goes_on (Ok (r.Rule number)) more = r.Rule number ∷ more
+goes_on (Ok r.Condition) more = r.Condition ∷ more
+goes_on (Ok (r.Test t)) more = r.Test t ∷ more
+goes_on (Ok r.End) more = []
+goes_on (Err e) more = []
 
 -- at most n records, one after the other from `at` on
 unfoldable pub records_from : ℕ → List ℕ → ℕ → List Record
 records_from zero book at = []
-records_from (suc n) book at = goes_on (record_at book at) (records_from n book (at + bytes_of (size_of (record_at book at))))
+records_from (suc n) book at = goes_on (record_at book at) (records_from n book (at + bytes_of (record_at book at)))
 
 -- a record takes a byte at least, so there are no more records than bytes
 abbrev pub records_in : List ℕ → List Record

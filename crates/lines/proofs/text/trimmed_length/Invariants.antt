@@ -1,12 +1,7 @@
--- The loop's invariant: the first n bytes of the wording have the same trimmed as all of it. The measure is n.
-use Prim.Native.Nat.{◌≤◌}
-use mathlib.Core.Path.{◌≡◌}
-use lib.ListN.{length, take}
+-- The first bytes up to `last` have the same trimmed as all of the wording.
+use Rattle.std.proofs.Common.{◌≡◌, ◌≤◌, length, take}
 use Rattle.lines.specs.Line.{trimmed}
 use Rattle.lines.proofs.text.trimmed_length.Given as goal
 
-abbrev pub invariant-loop-n : goal.invariant-loop-n
-invariant-loop-n l = (l.n ≤ length l.wording) × (trimmed (take l.n l.wording) ≡ trimmed l.wording)
-
-abbrev pub decreases-loop-n : goal.decreases-loop-n
-decreases-loop-n l = l.n
+abbrev pub invariant-loop-last : goal.invariant-loop-last
+invariant-loop-last l = (l.last ≤ length l.wording) × (trimmed (take l.last l.wording) ≡ trimmed l.wording)

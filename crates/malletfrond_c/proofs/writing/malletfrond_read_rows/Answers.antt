@@ -1,13 +1,12 @@
 -- `malletfrond_c::writing::malletfrond_read_rows` meets its contract: `read_rows` keeps its promise, and each arm tells its case of the answer. Assumes nothing.
-use Rattle.std.proofs.Common.{ap}
-use Rattle.malletfrond_c.specs.Writing.{rows_told}
-use Rattle.malletfrond_c.proofs.WritingLaws.{tells-results, tells-refusal}
+use Rattle.std.proofs.Common.{refl}
+use Rattle.malletfrond_c.specs.Exported.{answer_number, answer_place, answer_result}
 use Rattle.malletfrond_c.proofs.writing.malletfrond_read_rows.Goals as goal
 
-pub returns-in-Read : goal.returns-in-Read
-unfolding rows_told
-returns-in-Read c = record { answer = _; reads = c.read_rows-answer.ensures; tells = tells-results (ap rows_told c.in-Read.is) }
+pub returns-in-Ok : goal.returns-in-Ok
+unfolding answer_number answer_place answer_result
+returns-in-Ok c = record { answer = _; reads = c.in-Ok.ensures; tells = record { number = refl; written = refl; at = refl } }
 
-pub returns-in-Refused : goal.returns-in-Refused
-unfolding rows_told
-returns-in-Refused c = record { answer = _; reads = c.read_rows-answer.ensures; tells = tells-refusal (ap rows_told c.in-Refused.is) }
+pub returns-in-Err : goal.returns-in-Err
+unfolding answer_number answer_place answer_result
+returns-in-Err c = record { answer = _; reads = c.in-Err.ensures; tells = record { number = c.number.ensures; written = refl; at = refl } }

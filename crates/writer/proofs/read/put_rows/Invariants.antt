@@ -1,10 +1,7 @@
--- `writer::read::put_rows`: the rows of the records passed stand in `rows`.
-use Rattle.std.proofs.Common.{◌-◌, length}
+-- The rows of the records gone over stand at the front. Assumes nothing.
+use Rattle.writer.specs.Left.{records_left}
 use Rattle.writer.proofs.Passing.{Rowing}
 use Rattle.writer.proofs.read.put_rows.Given as goal
 
-abbrev pub invariant-loop-size : goal.invariant-loop-size
-invariant-loop-size l = Rowing l.book l.initial.rows l.n l.at l.rows
-
-abbrev pub decreases-loop-size : goal.decreases-loop-size
-decreases-loop-size l = length l.book - l.at
+abbrev pub invariant-loop-k : goal.invariant-loop-k
+invariant-loop-k l = Rowing l.book l.initial.rows l.k-iterator.count (records_left l.k-iterator.iter) l.rows

@@ -1,21 +1,15 @@
--- `writer::write::mend` meets its contract: as the definition goes. Assumes nothing.
-use Rattle.std.proofs.Common.{◌≡◌, sym, ◌∙◌, arith}
-use borrow.Author.Tests.{ne_eqb}
-use Rattle.writer.specs.Promise.{mended}
+-- `writer::write::mend` meets its contract. Assumes nothing.
+use Rattle.std.proofs.Common.{sym, ◌∙◌}
+use Rattle.writer.proofs.Judging.{mended-five, mended-fit, mended-other}
 use Rattle.writer.proofs.write.mend.Goals as goal
+use Rattle.writer.proofs.write.mend.Goals.{else-eq-via-then-eq+else-is_unfit_at, else-eq-via-else-eq}
 
 pub returns-then-is_unfit_at : goal.returns-then-is_unfit_at
-unfolding mended
-returns-then-is_unfit_at c =
-    let five : c.args.number ≡ 5 = omega arith in
-    rw (five, sym c.is_unfit_at.ensures ∙ c.if-is_unfit_at.true)
+returns-then-is_unfit_at c = mended-five c.args.rows.now c.args.refusal c.eq.result c.eq.ensures c.if-eq.true (sym c.is_unfit_at.ensures ∙ c.if-is_unfit_at.true)
 
-pub returns-else-is_unfit_at : goal.returns-else-is_unfit_at
-unfolding mended
-returns-else-is_unfit_at c =
-    let five : c.args.number ≡ 5 = omega arith in
-    rw (five, sym c.is_unfit_at.ensures ∙ c.if-is_unfit_at.false)
-
-pub returns-else-number-eq-NUMBER_NOT_ABOVE : goal.returns-else-number-eq-NUMBER_NOT_ABOVE
-unfolding mended
-returns-else-number-eq-NUMBER_NOT_ABOVE c = simp (ne_eqb _ 5 c.if-number-eq-NUMBER_NOT_ABOVE.false)
+pub returns : goal.returns
+returns c =
+    elim c.else-eq.branch [
+      | else-eq-via-then-eq+else-is_unfit_at w ↦ mended-fit c.args.rows.now c.args.refusal c.eq.result c.eq.ensures (sym w.is_unfit_at.ensures ∙ w.if-is_unfit_at.false)
+      | else-eq-via-else-eq w ↦ mended-other c.args.rows.now c.args.refusal c.eq.result c.eq.ensures w.if-eq.false
+    ]

@@ -1,0 +1,68 @@
+-- For each place of the order in use a row is made anew and compared. Assumes nothing.
+use Rattle.std.proofs.Common.{◌+◌, ◌-◌, take, drop, sym, ◌∙◌, arith, length-take, length-drop}
+use mathlib.Core.Bool.{false≢true}
+use borrow.Author.Count.{below_none, below_more}
+use Rattle.room.specs.Parts.{part}
+use Rattle.row.specs.Row.{RowOf, book_flags}
+use Rattle.checking.specs.Checked.{counts_in}
+use Rattle.checking.proofs.Answers.{yes, no}
+use Rattle.checking.proofs.RowsLaws.{rows_known, row_known}
+use Rattle.checking.proofs.Numbers.{bounds, rules_few, conditions_are, row-asked}
+use Rattle.checking.proofs.memories.rows_agree.Goals as goal
+use Rattle.checking.proofs.memories.rows_agree.Goals.{After-make_row-row}
+
+-- the row made for the slot at this place of the order
+row_made : (c : After-make_row-row) →
+    let room = c.args.room.now in
+    RowOf c.make_row-row.result.bits (book_flags (take (16 + c.two_at-end.result - 16) (drop 16 room)) (part room 8208 384) c.reading_at-w.result 0 (counts_in room))
+row_made c =
+    let a = c.loop-i.invariant.0 in
+    (c.make_row-row.ensures _ (rules_few _ _ _ _ a) (conditions_are _ _ _ _ a)).0
+
+pub two_at-n-requires : goal.two_at-n-requires
+two_at-n-requires c = let b = bounds _ c.requires in omega arith
+
+pub two_at-end-requires : goal.two_at-end-requires
+two_at-end-requires c = let b = bounds _ c.requires in omega arith
+
+pub two_at-conditions-requires : goal.two_at-conditions-requires
+two_at-conditions-requires c = let b = bounds _ c.requires in omega arith
+
+pub loop-i-init : goal.loop-i-init
+loop-i-init c = (
+  record {
+    bounded = bounds _ c.requires;
+    readings = c.two_at-n.ensures.0;
+    book = omega (arith, c.two_at-end.ensures);
+    conditions = c.two_at-conditions.ensures.0;
+  },
+  below_none _,
+)
+
+pub make_row-row-requires : goal.make_row-row-requires
+make_row-row-requires c = row-asked _ _ _ _ c.loop-i.invariant.0
+
+pub row_agrees-requires : goal.row_agrees-requires
+row_agrees-requires c =
+    let a = c.loop-i.invariant.0 in
+    let slot = c.type_inv.room (8816 + c.loop-i.i) in
+    (simp (length-take, length-drop) (omega arith), ((row_made (goal.at.row_agrees-requires c).After-make_row-row).long, omega arith))
+
+pub returns-then-not-row_agrees : goal.returns-then-not-row_agrees
+returns-then-not-row_agrees c =
+    let l = c.loop-i in
+    let R = row_made (goal.at.returns-then-not-row_agrees c).After-make_row-row in
+    no λ all.
+    let own = (rows_known _ l.invariant.0.bounded).0 all l.i (omega arith) in
+    let answered = row_known _ _ _ _ l.invariant.0 _ _ _ _ c.reading_at-w.ensures R c.row_agrees.ensures in
+    false≢true (sym c.if-not-row_agrees.true ∙ answered.1 own)
+
+pub loop-i-preserved : goal.loop-i-preserved
+loop-i-preserved c =
+    let l = c.loop-i in
+    let R = row_made (goal.at.loop-i-preserved c).After-make_row-row in
+    let answered = row_known _ _ _ _ l.invariant.0 _ _ _ _ c.reading_at-w.ensures R c.row_agrees.ensures in
+    (l.invariant.0, below_more _ _ l.invariant.1 (answered.0 c.if-not-row_agrees.false))
+
+pub returns : goal.returns
+returns c = let l = c.loop-i in yes ((rows_known _ l.invariant.0.bounded).1 λ k h. l.invariant.1 k (omega arith))
