@@ -1,4 +1,4 @@
-// The refusals of document 01, in one place, and the limits of a book. A refusal returns its number and a place.
+// The refusals of document 01, in one place, and the limits of a book. A refusal is a cause, which has its number, and a place.
 ghost use Rattle.std.specs.Prelude.{◌≡◌};
 ghost use Rattle.book.specs.Refusals.{number_of};
 

@@ -1,19 +1,61 @@
--- A line put together in an array of 230 bytes: the number, the entries and the ending, one behind the other; and how long it is. Assumes nothing.
+-- An entry put together at the front of what is free: a space, and three numbers with slashes between; and a line in an array of 230 bytes: the number, the entries and the ending, one behind
+-- the other, and how long it is. Assumes nothing.
 use Prim.Native.Nat.{ℕ, ◌+◌, ◌-◌, ◌*◌, ◌≤◌, ◌<◌}
 use mathlib.Core.Path.{◌≡◌, refl, ap}
-use mathlib.Core.List.{List, ◌++◌, append_assoc}
+use mathlib.Core.List.{List, [], ◌∷◌, ◌++◌, append_assoc}
 use native.Mathlib.Omega.{arith}
 use borrow.Rule.Slice.PartMut.{put_mid}
-use lib.ListN.{length, take, drop, replicate}
+use lib.ListN.{length, take, drop, set, replicate}
 use lib.Seq.{length-take-le}
 use Rattle.numbers.specs.Digits.{digits}
 use Rattle.numbers.specs.Spliced.{spliced}
 use Rattle.numbers.proofs.Digits.{length_digits_16}
 use Rattle.reading.specs.declared.Reading.{Reading}
 use Rattle.weave.proofs.SplicedLaws.{length_stretch}
-use Rattle.lines.specs.Line.{entries, trimmed, ending, line_text}
-use Rattle.lines.proofs.Front.{Front, front_spliced, front_lent_in}
-use Rattle.lines.proofs.LineLaws.{length-ending}
+use Rattle.lines.specs.Line.{entry, entries, trimmed, ending, line_text}
+use Rattle.lines.proofs.Front.{Front, front_nil, front_byte, front_spliced, front_lent, front_lent_in, rest, rest_long, back}
+use Rattle.lines.proofs.LineLaws.{length-entry, entry_pieces, length-ending}
+
+module _ (free : List ℕ) (r : Reading) (long : length (entry r) ≤ length free) where
+  -- the place that the pieces have
+  pub enough : length (digits r.line) + length (digits r.column) + length (digits r.value) + 3 ≤ length free
+  enough = omega (arith, length-entry r)
+
+  pub spaced : Front free (32 ∷ []) (set free 0 32) 1
+  spaced = front_byte (front_nil free) 32 (omega (arith, enough))
+
+  pub line_fits : length (digits r.line) ≤ length (rest (set free 0 32) 1)
+  line_fits = rest_long (set free 0 32) 1 (length (digits r.line)) (omega (arith, enough, spaced.long))
+
+  module _ {a : ℕ} {A : List ℕ} (p : (a ≡ length (digits r.line)) × (A ≡ spliced (rest (set free 0 32) 1) 0 (digits r.line))) where
+    abbrev lined : List ℕ
+    lined = back (set free 0 32) 1 A
+
+    pub line_put : Front free ((32 ∷ []) ++ digits r.line) lined (1 + a)
+    line_put = front_lent spaced (digits r.line) (omega (arith, enough, p.0)) p
+
+    pub slash_put : Front free (((32 ∷ []) ++ digits r.line) ++ 47 ∷ []) (set lined (1 + a) 47) (1 + a + 1)
+    slash_put = front_byte line_put 47 (omega (arith, enough, p.0))
+
+    pub column_fits : length (digits r.column) ≤ length (rest (set lined (1 + a) 47) (1 + a + 1))
+    column_fits = rest_long (set lined (1 + a) 47) (1 + a + 1) (length (digits r.column)) (omega (arith, enough, p.0, slash_put.long))
+
+    module _ {b : ℕ} {B : List ℕ} (q : (b ≡ length (digits r.column)) × (B ≡ spliced (rest (set lined (1 + a) 47) (1 + a + 1)) 0 (digits r.column))) where
+      abbrev columned : List ℕ
+      columned = back (set lined (1 + a) 47) (1 + a + 1) B
+
+      pub column_put : Front free ((((32 ∷ []) ++ digits r.line) ++ 47 ∷ []) ++ digits r.column) columned (1 + a + 1 + b)
+      column_put = front_lent slash_put (digits r.column) (omega (arith, enough, p.0, q.0)) q
+
+      pub slashes_put : Front free (((((32 ∷ []) ++ digits r.line) ++ 47 ∷ []) ++ digits r.column) ++ 47 ∷ []) (set columned (1 + a + 1 + b) 47) (1 + a + 1 + b + 1)
+      slashes_put = front_byte column_put 47 (omega (arith, enough, p.0, q.0))
+
+      pub value_fits : length (digits r.value) ≤ length (rest (set columned (1 + a + 1 + b) 47) (1 + a + 1 + b + 1))
+      value_fits = rest_long (set columned (1 + a + 1 + b) 47) (1 + a + 1 + b + 1) (length (digits r.value)) (omega (arith, enough, p.0, q.0, slashes_put.long))
+
+      pub entry_put : {d : ℕ} {D : List ℕ} → (d ≡ length (digits r.value)) × (D ≡ spliced (rest (set columned (1 + a + 1 + b) 47) (1 + a + 1 + b + 1)) 0 (digits r.value))
+          → Front free (entry r) (back (set columned (1 + a + 1 + b) 47) (1 + a + 1 + b + 1) D) (1 + a + 1 + b + 1 + d)
+      entry_put t = let all = front_lent slashes_put (digits r.value) (omega (arith, enough, p.0, q.0, t.0)) t in rw entry_pieces at all
 
 abbrev pub zeros : List ℕ
 zeros = replicate 230 0

@@ -3,7 +3,8 @@
 use Prim.Native.Nat.{ℕ, zero, suc, ◌+◌, ◌*◌, ◌/◌, ◌%◌, ◌^◌, ◌≤◌, ◌<◌}
 use mathlib.Core.Path.{◌≡◌, refl, sym, ap, ap₂, ◌∙◌}
 use mathlib.Core.List.{List, [], ◌∷◌, ◌++◌, append-nil}
-use native.Mathlib.Nat.{add-zero, mul_comm, pow-suc, div-add-mod', div-div-eq-div-mul}
+use native.Mathlib.Nat.{add-zero, mul_comm, pow-suc, pow-le-pow_right, div-add-mod', div-div-eq-div-mul}
+use native.Mathlib.Numerals.{add-one}
 use native.Mathlib.Omega.{arith}
 use lib.ListN.{length, drop, get_or, length-append}
 use lib.Seq.{append_snoc, get_or_at, get_or-drop}
@@ -17,6 +18,20 @@ use Rattle.numbers.proofs.Spliced.{put_mid-spliced, get_or-spliced-before, get_o
 
 below_power_suc : (k x v : ℕ) → x < 256 ^ k → v < 256 → x * 256 + v < 256 ^ suc k
 below_power_suc k x v h hv = rw pow-suc (omega arith)
+
+-- what is below 256 ^ k with k below 8 has room for a byte more in 64 bits
+pub below_power_word : (k x : ℕ) → k < 8 → x < 256 ^ k → x < 2 ^ 56
+below_power_word k x hk h = omega (arith, pow-le-pow_right {n = 256} (omega arith) {i = k} {j = 7} (omega arith))
+
+-- the bytes of b from i on are passed one by one
+pub uint_passed : (k x : ℕ) (b : List ℕ) (i : ℕ) → k < 8 → get_or b (i + k) 0 < 256 → (x ≡ uint k b i) × (x < 256 ^ k)
+    → (x * 256 + get_or b (i + k) 0 < 2 ^ 64) × ((x * 256 + get_or b (i + k) 0 ≡ uint (k + 1) b i) × (x * 256 + get_or b (i + k) 0 < 256 ^ (k + 1)))
+unfolding uint
+uint_passed k x b i word byte passed =
+    let next : x * 256 + get_or b (i + k) 0 < 256 ^ suc k = below_power_suc k x (get_or b (i + k) 0) passed.1 byte in (
+      omega (arith, byte, below_power_word k x word passed.1),
+      (rw add-one (ap (λ (p : ℕ). p * 256 + get_or b (i + k) 0) passed.0), rw add-one next),
+    )
 
 pub uint-below : (n : ℕ) (b : List ℕ) (i : ℕ) → ((k : ℕ) → get_or b k 0 < 256) → uint n b i < 256 ^ n
 unfolding uint

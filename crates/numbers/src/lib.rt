@@ -1,13 +1,25 @@
 // Numbers in bytes: big-endian and two's complement, as the rule book and the room keep them, and decimal digits, as a line shows them.
 #![tactic(auto)]
 
-ghost use Rattle.std.specs.Prelude.{◌≡◌, ◌+◌, ◌≤◌, ◌<◌, length};
+ghost use Rattle.std.specs.Prelude.{◌≡◌, ◌+◌, ◌^◌, ◌≤◌, ◌<◌, length};
 ghost use Rattle.numbers.specs.BigEndian.{uint, bytes};
 ghost use Rattle.numbers.specs.Digits.{digits};
 ghost use Rattle.numbers.specs.Signed.{signed};
 ghost use Rattle.numbers.specs.Spliced.{spliced};
 
-// The big-endian number of the two bytes of b from i on.
+// The big-endian number of the n bytes of b from i on.
+pub fn uint_at(b: &[u8], i: usize, n: usize) -> u64
+    requires { (n ≤ 8) × (i + n ≤ length b.now) }
+    ensures { (result ≡ uint n b.now i) × (result < 256 ^ n) }
+{
+    let mut acc: u64 = 0;
+    for byte in &b[i..i + n] {
+        acc = acc * 256 + *byte as u64;
+    }
+    acc
+}
+
+// The same of two bytes, which are read often: with no loop.
 #[tactic(auto, unfolding(crate::specs::BigEndian::uint))]
 pub fn two_at(b: &[u8], i: usize) -> usize
     requires { i + 2 ≤ length b.now }

@@ -14,7 +14,7 @@ use crate::table::put_table;
 use reading::Reading;
 
 // The first n bytes of `from` in a part, from `at` on.
-pub fn copy_at(part: &mut [u8], at: usize, from: &[u8], n: usize)
+fn copy_at(part: &mut [u8], at: usize, from: &[u8], n: usize)
     requires { (at + n ≤ length part.old) × (n ≤ length from.now) }
     ensures { part.new ≡ spliced part.old at (take n from.now) }
 {

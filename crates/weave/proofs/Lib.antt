@@ -2,7 +2,6 @@ pub mod BuiltLaws
 pub mod CountLaws
 pub mod FindLaws
 pub mod Grown
-pub mod LentLaws
 pub mod Making
 pub mod MovedLaws
 pub mod OldLaws
