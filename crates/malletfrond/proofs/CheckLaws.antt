@@ -8,23 +8,18 @@ use mathlib.Core.List.{List, [], map}
 use native.Mathlib.Nat.{zero-add}
 use native.Mathlib.Omega.{arith}
 use borrow.Author.Tests.{not-true, not-false}
-use lib.Dec.{eqb, lit≤}
-use lib.ListN.{take, get_or}
-use Rattle.numbers.specs.BigEndian.{uint}
+use lib.Dec.{eqb}
+use lib.ListN.{get_or}
 use Rattle.book.specs.Rules.{condition_count}
 use Rattle.book.specs.Stands.{conditions_of}
 use Rattle.book.proofs.Limits.{read_kept}
-use Rattle.reading.specs.Reading.{is_less, reading_at}
 use Rattle.matching.specs.Complaints.{levels}
-use Rattle.matching.specs.Order.{Less, Sorted}
-use Rattle.room.specs.Parts.{part}
 use Rattle.room.specs.Layout.{head_number, parts, condition_places_part, order_part, slots_part, rows_part, nodes_part, lasts_part}
 use Rattle.room.specs.Broken.{broken}
 use Rattle.room.specs.Held.{Held, Once, Arranged, held, slots_of}
 use Rattle.room.proofs.BrokenLaws.{agreed, Whole, not_broken-whole}
 use Rattle.row.specs.Row.{book_flags}
 use Rattle.rete.specs.Rules.{rules_built, ends_built, completes_built}
-use Rattle.step.proofs.Lending.{number_read}
 use Rattle.checking.specs.Checked.{book_in, counts_in, read_in, pass_in, Indexed, Rises, RowsAgree, Rebuilt}
 use Rattle.sound.specs.Sound.{Sound, held_of}
 use Rattle.malletfrond.specs.Promise.{Checks}
@@ -160,11 +155,6 @@ module _ (room : List ℕ) where
 
   pub checks_no : {a : Bool} {P : Type 0} → Asked a P → a ≡ false → Checks room a
   checks_no before e = record { exact = (λ t. absurd (false≢true (sym e ∙ t)), λ s. absurd (before.no e s)) }
-
-  -- the readings asked after by their number, as it is read
-  pub rises-read : {n : ℕ} {r : Bool} → n ≡ uint 2 room 4 → (r ≡ true) ↔ Sorted (Less is_less) (map (reading_at (part room 9072 3072)) (take n (part room 8816 256)))
-      → (r ≡ true) ↔ Rises room
-  rises-read read asked = rw (number_read room 2 (lit≤ tt) read) at asked
 
   -- the tokens asked last: their answer is the check's
   pub checks_yes : {a r : Bool} → Asked a (((broken room ≡ false × Indexed room) × (Once (order_part (parts room)) × Rises room)) × RowsAgree room) → a ≡ true → (r ≡ true) ↔ Rebuilt room

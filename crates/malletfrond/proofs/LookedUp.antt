@@ -6,7 +6,6 @@ use mathlib.Core.Bool.{Bool, true, false}
 use mathlib.Core.List.{List}
 use native.Mathlib.Omega.{arith}
 use lib.Dec.{lit≤}
-use lib.ListN.{length}
 use Rattle.std.specs.Prelude.{Err}
 use Rattle.book.specs.declared.refusal.Cause.TheVariants.{AlreadyPresent, NotPresent, TooManyReadings, TooManyTokens}
 use Rattle.book.specs.Refusals.{refusal}
@@ -16,31 +15,16 @@ use Rattle.matching.specs.Step.{add, remove}
 use Rattle.room.specs.Broken.{broken}
 use Rattle.room.specs.Held.{held, complete_of}
 use Rattle.room.specs.Layout.{head_number, limit, parts, order_part, slots_part}
-use Rattle.room.specs.Parts.{part}
-use Rattle.room.proofs.BrokenLaws.{Whole, not_broken-whole}
-use Rattle.room.proofs.Large.{large-part}
 use Rattle.step.specs.Worked.{AddedAt, RemovedAt}
-use Rattle.step.proofs.Lending.{in_room, number_read}
+use Rattle.step.proofs.Lending.{number_read}
 use Rattle.sound.specs.Sound.{Sound}
 use Rattle.malletfrond.specs.Answers.{changed_to}
-use Rattle.malletfrond.specs.Looked.{LookedUp}
+use Rattle.step.specs.Looked.{LookedUp}
 use Rattle.malletfrond.specs.Promise.{Steps}
 use Rattle.malletfrond.proofs.AddLaws.{stands, adds_present, adds_full, adds_over, adds_accepted}
 use Rattle.sound.proofs.Ranks.{rank_in, stands-there}
 use Rattle.sound.proofs.ReadBack.{Fits}
 use Rattle.malletfrond.proofs.RemoveLaws.{removes_absent, removes_accepted}
-
-module _ (room : List ℕ) (whole : broken room ≡ false) {n : ℕ} (read : n ≡ uint 2 room 4) where
-  -- the readings present, as they are read
-  pub many_read : n ≡ head_number room 2
-  many_read = number_read room 2 (lit≤ tt) read
-
-  -- the order and the slots are lent long enough for a reading to be looked up
-  pub parts-lent : (n ≤ length (part room 8816 256)) × (length (part room 9072 3072) ≡ 3072)
-  parts-lent =
-      let w : Whole room = not_broken-whole room whole in
-      let large : 18288 ≤ length room = in_room room whole (lit≤ tt) in
-      (omega (arith, many_read, large-part room 8816 256 (lit≤ tt) large), large-part room 9072 3072 (lit≤ tt) large)
 
 -- what was looked up of a reading, in a room that is not broken
 module _ {room : List ℕ} {w : Reading} {n p : ℕ} {found : Bool} (whole : broken room ≡ false) (k : LookedUp room w n p found) where

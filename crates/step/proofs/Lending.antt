@@ -5,6 +5,7 @@ use mathlib.Core.Path.{◌≡◌, sym, ap, ap₂, ◌∙◌}
 use mathlib.Core.Bool.{false, false≢true}
 use mathlib.Core.List.{List}
 use native.Mathlib.Omega.{arith}
+use lib.Dec.{lit≤}
 use lib.ListN.{length, take, drop, get_or, replicate, length-replicate}
 use lib.Seq.{get_or-take, get_or-drop, take-take}
 use Rattle.std.specs.Prelude.{Result, Ok, Err}
@@ -37,6 +38,18 @@ room_long room whole = in_room room whole (omega arith)
 -- a number of the header as it is read
 pub number_read : (room : List ℕ) (k : ℕ) {x : ℕ} → k < 8 → x ≡ uint 2 room (k * 2) → x ≡ head_number room k
 number_read room k h e = e ∙ sym (head_number-at room k h)
+
+module _ (room : List ℕ) (whole : broken room ≡ false) {n : ℕ} (read : n ≡ uint 2 room 4) where
+  -- the readings present, as they are read
+  pub many_read : n ≡ head_number room 2
+  many_read = number_read room 2 (lit≤ tt) read
+
+  -- the order and the slots are lent long enough for a reading to be looked up
+  pub parts-lent : (n ≤ length (part room 8816 256)) × (length (part room 9072 3072) ≡ 3072)
+  parts-lent =
+      let w : Whole room = not_broken-whole room whole in
+      let large : 18288 ≤ length room = in_room room whole (lit≤ tt) in
+      (omega (arith, many_read, large-part room 8816 256 (lit≤ tt) large), large-part room 9072 3072 (lit≤ tt) large)
 
 -- a whole room, and the limit, the readings and the rules that were read of it
 pub record Known (room : List ℕ) (T n rules : ℕ) : Type 0 where

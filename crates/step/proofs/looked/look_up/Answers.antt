@@ -1,8 +1,7 @@
--- `malletfrond::look_up` meets its contract: the order and the slots stand in a room that is not broken, and it says what the order's calls do of them. Assumes nothing.
+-- `step::looked::look_up` meets its contract: the order and the slots stand in a room that is not broken, and it says what the order's calls do of them. Assumes nothing.
 use lib.Dec.{lit≤}
-use Rattle.step.proofs.Lending.{in_room}
-use Rattle.malletfrond.proofs.LookedUp.{many_read, parts-lent}
-use Rattle.malletfrond.proofs.look_up.Goals as goal
+use Rattle.step.proofs.Lending.{in_room, many_read, parts-lent}
+use Rattle.step.proofs.looked.look_up.Goals as goal
 
 pub slice_bounds-order-end : goal.slice_bounds-order-end
 slice_bounds-order-end c = in_room _ c.requires (lit≤ tt)
