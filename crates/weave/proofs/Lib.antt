@@ -2,6 +2,7 @@ pub mod BuiltLaws
 pub mod CountLaws
 pub mod FindLaws
 pub mod Grown
+pub mod Lent
 pub mod Making
 pub mod MovedLaws
 pub mod OldLaws
