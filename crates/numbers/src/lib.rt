@@ -1,6 +1,8 @@
 // Numbers in bytes: big-endian and two's complement, as the rule book and the room keep them, and decimal digits, as a line shows them.
 #![tactic(auto)]
 
+pub mod halving;
+
 ghost use Rattle.std.specs.Prelude.{◌≡◌, ◌+◌, ◌^◌, ◌≤◌, ◌<◌, length};
 ghost use Rattle.numbers.specs.BigEndian.{uint, bytes};
 ghost use Rattle.numbers.specs.Digits.{digits};

@@ -10,7 +10,7 @@ use mathlib.Core.List.{Memᴰ}
 use native.Mathlib.Numerals.{add-one}
 use native.Mathlib.Omega.{arith}
 use lib.ListN.{length, take, drop, get_or, set, length-append, length-drop, take-append-drop}
-use lib.Seq.{drop-drop, take_at, take-suc, take-take, set_at, split_at, length-take-le, length-slice, get_or-take, get_or-drop}
+use lib.Seq.{drop-cons, drop-drop, take_at, take-suc, take-take, set_at, split_at, length-take-le, length-slice, get_or-take, get_or-drop}
 use Rattle.std.proofs.lemmas.List.{get_or_default}
 use Rattle.std.specs.List.Sorted.{IsPartitionPoint, IsPartitionedBy}
 use borrow.Rule.Slice.PartMut.{put_mid}
@@ -142,20 +142,24 @@ moved_in-set l p n long low high =
     ∙ set_at (take p l) (get_or l p 0) (m ++ drop (n + 1) l) v p (length-take-le p l (omega arith))
     ∙ rw (stretch_up_to l p n low (omega arith))
 
--- the order as `take_from` leaves it: the slot of p goes behind those that follow it up to n
-pub moved_out-put : (l : List ℕ) (p n : ℕ) → p < n → n ≤ length l
-    → put_mid p (n - p) l (drop 1 (take (n - p) (drop p l)) ++ take 1 (take (n - p) (drop p l))) ≡ moved_out l p n
-moved_out-put l p n low high =
-    let m : List ℕ = take (n - p) (drop p l) in
-    let many : length m ≡ n - p = length_stretch l p (n - p) (omega arith) in
-    let up : m ≡ drop p (take n l) = stretch_up_to l p n (omega arith) (omega arith) in
-    let behind : drop 1 m ≡ drop (p + 1) (take n l) = ap (drop 1) up ∙ drop-drop 1 p (take n l) in
-    let some : 0 < n - p = omega arith in
-    let start : p + 0 ≡ p = omega arith in
-    let own : take 1 m ≡ get_or l p 0 ∷ [] =
-    take-suc m 0 0 (omega arith) ∙ ap (λ (x : ℕ). x ∷ []) (get_or-take (n - p) (drop p l) 0 0 some ∙ get_or-drop p l 0 0 ∙ ap (λ (k : ℕ). get_or l k 0) start) in
-    let rest : drop (n - p) (drop p l) ≡ drop n l = let e : p + (n - p) ≡ n = omega arith in drop-drop (n - p) p l ∙ ap (λ (k : ℕ). drop k l) e in
-    rw (behind, own, rest, append_assoc)
+-- the order as `take_from` leaves it: the slots behind p written where they go, and then the slot of p set behind them
+pub moved_out-set : (l : List ℕ) (p n : ℕ) → p < n → n ≤ length l → set (put_mid p (n - 1 - p) l (take (n - (p + 1)) (drop (p + 1) l))) (n - 1) (get_or l p 0) ≡ moved_out l p n
+moved_out-set l p n low high =
+    let v : ℕ = get_or l p 0 in
+    let m : List ℕ = take (n - (p + 1)) (drop (p + 1) l) in
+    let x : ℕ = get_or l (n - 1) 0 in
+    let up : m ≡ drop (p + 1) (take n l) = stretch_up_to l (p + 1) n (omega arith) (omega arith) in
+    let many : length m ≡ n - (p + 1) = length_stretch l (p + 1) (n - (p + 1)) (omega arith) in
+    let rest : drop (n - 1 - p) (drop p l) ≡ x ∷ drop n l =
+    let e : p + (n - 1 - p) ≡ n - 1 = omega arith in
+    let f : suc (n - 1) ≡ n = omega arith in
+    drop-drop (n - 1 - p) p l ∙ ap (λ (k : ℕ). drop k l) e ∙ drop-cons l (n - 1) 0 (omega arith) ∙ ap (λ (k : ℕ). x ∷ drop k l) f in
+    let long : length (take p l ++ m) ≡ n - 1 = omega (arith, length-append (take p l) m, length-take-le p l (omega arith)) in
+    let is : put_mid p (n - 1 - p) l m ≡ (take p l ++ m) ++ x ∷ drop n l = rw rest (sym (append_assoc (take p l) m (x ∷ drop n l))) in
+    ap (λ (z : List ℕ). set z (n - 1) v) is
+    ∙ set_at (take p l ++ m) x (drop n l) v (n - 1) long
+    ∙ append_assoc (take p l) m (v ∷ drop n l)
+    ∙ ap (λ (z : List ℕ). take p l ++ (z ++ v ∷ drop n l)) up
 
 -- ---- moved_in
 

@@ -4,6 +4,7 @@ ghost use Rattle.reading.specs.Reading.{is_less, reading_at};
 ghost use Rattle.matching.specs.Order.{Less, Sorted};
 ghost use Rattle.row.specs.Row.{leading, lesser, stands_at, moved_in, moved_out};
 
+use numbers::halving::parting;
 use reading::Reading;
 
 // How many of the first n slots have a reading that comes before w, found by halving: of slots whose readings ascend. Of any other a place up to n.
@@ -11,7 +12,10 @@ pub fn rank_of(order: &[u8], slots: &[u8], n: usize, w: Reading) -> usize
     requires { (n ≤ length order.now) × (length slots.now ≡ 3072) }
     ensures { (result ≤ n) × (Sorted (Less is_less) (map (reading_at slots.now) (take n order.now)) → result ≡ leading (lesser slots.now w) (take n order.now)) }
 {
-    order[..n].partition_point(|s| reading::is_less(reading::reading_at(slots, *s as usize), w))
+    parting(
+        &order[..n],
+        |s| reading::is_less(reading::reading_at(slots, *s as usize), w),
+    )
 }
 
 // Whether w stands at place p of the first n.
@@ -37,5 +41,8 @@ pub fn take_from(order: &mut [u8], p: usize, n: usize)
     requires { (length order.old ≡ 256) × ((p < n) × (n ≤ 256)) }
     ensures { order.new ≡ moved_out order.old p n }
 {
-    order[p..n].rotate_left(1);
+    let mut before = [0; 256];
+    before.copy_from_slice(order);
+    order[p..n - 1].copy_from_slice(&before[p + 1..n]);
+    order[n - 1] = before[p];
 }

@@ -9,7 +9,7 @@ pub returns : goal.returns
 returns c =
     let a = c.args in
     let long = length-take-le a.n a.order.now (omega arith) in (
-      omega (arith, c.partition_point.ensures.bound),
-      λ up. parted-rank a.slots.now a.w (take a.n a.order.now) up c.partition_point.result c.partition_point.ensures.bound
-          (IsPartitionPoint-from_clause (lesser a.slots.now a.w) (take a.n a.order.now) _ c.partition_point.ensures.partitioned (parted-by a.slots.now a.w (take a.n a.order.now) up) (λ x r f' k. search rules)),
+      omega (arith, c.parting.ensures.bound),
+      λ up. parted-rank a.slots.now a.w (take a.n a.order.now) up c.parting.result c.parting.ensures.bound
+          (IsPartitionPoint-from_clause (lesser a.slots.now a.w) (take a.n a.order.now) _ c.parting.ensures.partitioned (parted-by a.slots.now a.w (take a.n a.order.now) up) (λ x r f' k. search rules)),
     )
