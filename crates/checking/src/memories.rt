@@ -9,7 +9,7 @@ use reading::reading_at;
 use room::layout::{
     BOOK, CONDITION_PLACES, ENDS, NODES, ORDER, ROWS, RULE_CONDITIONS, RULE_PLACES, SLOTS,
 };
-use row::row::make_row;
+use row::row::{Row, make_row};
 use weave::view::bit_at;
 
 // Whether row s has the bits of the first n conditions of a row made anew.
@@ -33,15 +33,17 @@ pub fn rows_agree(room: &[u8]) -> bool
     let n = two_at(room, 4);
     let end = BOOK + two_at(room, 8);
     let conditions = two_at(room, 12);
+    let mut row = Row::none();
     for i in 0..n {
         let s = room[ORDER + i] as usize;
         let w = reading_at(&room[SLOTS..ROWS], s);
-        let row = make_row(
+        make_row(
             &room[BOOK..end],
             &room[CONDITION_PLACES..RULE_PLACES],
             &room[RULE_CONDITIONS..ENDS],
             conditions,
             w,
+            &mut row,
         );
         if !row_agrees(&room[ROWS..NODES], s, &row.bits, conditions) {
             return false;

@@ -9,15 +9,6 @@ use Rattle.checking.proofs.Answers.{yes, no}
 use Rattle.checking.proofs.RowsLaws.{rows_known, row_known}
 use Rattle.checking.proofs.Numbers.{bounds, rules_few, conditions_are, row-asked}
 use Rattle.checking.proofs.memories.rows_agree.Goals as goal
-use Rattle.checking.proofs.memories.rows_agree.Goals.{After-make_row-row}
-
--- the row made for the slot at this place of the order
-row_made : (c : After-make_row-row) →
-    let room = c.args.room.now in
-    RowOf c.make_row-row.result.bits (book_flags (take (16 + c.two_at-end.result - 16) (drop 16 room)) (part room 8208 384) c.reading_at-w.result 0 (counts_in room))
-row_made c =
-    let a = c.loop-i.invariant.0 in
-    (c.make_row-row.ensures _ (rules_few _ _ _ _ a) (conditions_are _ _ _ _ a)).0
 
 pub two_at-n-requires : goal.two_at-n-requires
 two_at-n-requires c = let b = bounds _ c.requires in omega arith
@@ -39,19 +30,19 @@ loop-i-init c = (
   below_none _,
 )
 
-pub make_row-row-requires : goal.make_row-row-requires
-make_row-row-requires c = row-asked _ _ _ _ c.loop-i.invariant.0
+pub make_row-requires : goal.make_row-requires
+make_row-requires c = row-asked _ _ _ _ c.loop-i.invariant.0
 
 pub row_agrees-requires : goal.row_agrees-requires
 row_agrees-requires c =
     let a = c.loop-i.invariant.0 in
     let slot = c.type_inv.room (8816 + c.loop-i.i) in
-    (simp (length-take, length-drop) (omega arith), ((row_made (goal.at.row_agrees-requires c).After-make_row-row).long, omega arith))
+    (simp (length-take, length-drop) (omega arith), ((c.make_row.ensures _ (rules_few _ _ _ _ a) (conditions_are _ _ _ _ a)).0.long, omega arith))
 
 pub returns-then-not-row_agrees : goal.returns-then-not-row_agrees
 returns-then-not-row_agrees c =
     let l = c.loop-i in
-    let R = row_made (goal.at.returns-then-not-row_agrees c).After-make_row-row in
+    let R = (c.make_row.ensures _ (rules_few _ _ _ _ l.invariant.0) (conditions_are _ _ _ _ l.invariant.0)).0 in
     no λ all.
     let own = (rows_known _ l.invariant.0.bounded).0 all l.i (omega arith) in
     let answered = row_known _ _ _ _ l.invariant.0 _ _ _ _ c.reading_at-w.ensures R c.row_agrees.ensures in
@@ -60,7 +51,7 @@ returns-then-not-row_agrees c =
 pub loop-i-preserved : goal.loop-i-preserved
 loop-i-preserved c =
     let l = c.loop-i in
-    let R = row_made (goal.at.loop-i-preserved c).After-make_row-row in
+    let R = (c.make_row.ensures _ (rules_few _ _ _ _ l.invariant.0) (conditions_are _ _ _ _ l.invariant.0)).0 in
     let answered = row_known _ _ _ _ l.invariant.0 _ _ _ _ c.reading_at-w.ensures R c.row_agrees.ensures in
     (l.invariant.0, below_more _ _ l.invariant.1 (answered.0 c.if-not-row_agrees.false))
 
