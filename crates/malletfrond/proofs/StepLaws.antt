@@ -12,7 +12,7 @@ use Rattle.std.specs.Prelude.{Err}
 use Rattle.book.specs.declared.refusal.Cause.{Cause}
 use Rattle.book.specs.declared.refusal.Cause.TheVariants.{RoomBroken, AlreadyPresent, NotPresent, TooManyReadings, TooManyTokens}
 use Rattle.book.specs.declared.refusal.Refusal.{Refusal}
-use Rattle.book.specs.Refusals.{refusal}
+use Rattle.book.specs.Refusals.{refusal, number_of}
 use Rattle.matching.specs.Step.{Step, add, remove, accepted, refuse, stepped}
 use Rattle.matching.specs.Step as v
 use Rattle.room.specs.Parts.{cut}
@@ -105,17 +105,15 @@ steps-once room step x y room' room'' h p q = (p.refused_10 h ∙ sym (q.refused
 
 -- ---- a sound room is never refused as broken
 
--- a refusal is known by its cause
-same_cause : {a b : Cause} → refusal a 0 ≡ refusal b 0 → a ≡ b
-same_cause e = ap (λ (r : Refusal). r.cause) e
-
-not_10 : (step : Step) → ¬ Memᴰ (refusal RoomBroken 0) (refusals step)
+-- no refusal of a step has the number 10
+not_10 : (step : Step) (e : Refusal) → Memᴰ e (refusals step) → ¬ (number_of e.cause ≡ 10)
 unfolding refusals
-not_10 (add w) m = ⊎_elim (λ (e : refusal RoomBroken 0 ≡ refusal AlreadyPresent 0). let z : RoomBroken ≡ AlreadyPresent = same_cause e in cc)
-    (λ n. ⊎_elim (λ (e : refusal RoomBroken 0 ≡ refusal TooManyReadings 0). let z : RoomBroken ≡ TooManyReadings = same_cause e in cc)
-    (λ k. ⊎_elim (λ (e : refusal RoomBroken 0 ≡ refusal TooManyTokens 0). let z : RoomBroken ≡ TooManyTokens = same_cause e in cc) Memᴰ.not-nil (Memᴰ.cases_cons k)) (Memᴰ.cases_cons n))
+not_10 (add w) e m ten = ⊎_elim (λ (x : e ≡ refusal AlreadyPresent 0). let z : 11 ≡ 10 = rw x at ten in absurd (omega arith))
+    (λ n. ⊎_elim (λ (x : e ≡ refusal TooManyReadings 0). let z : 13 ≡ 10 = rw x at ten in absurd (omega arith))
+    (λ k. ⊎_elim (λ (x : e ≡ refusal TooManyTokens 0). let z : 14 ≡ 10 = rw x at ten in absurd (omega arith)) Memᴰ.not-nil (Memᴰ.cases_cons k)) (Memᴰ.cases_cons n))
     (Memᴰ.cases_cons m)
-not_10 (remove w) m = ⊎_elim (λ (e : refusal RoomBroken 0 ≡ refusal NotPresent 0). let z : RoomBroken ≡ NotPresent = same_cause e in cc) Memᴰ.not-nil (Memᴰ.cases_cons m)
+not_10 (remove w) e m ten = ⊎_elim (λ (x : e ≡ refusal NotPresent 0). let z : 12 ≡ 10 = rw x at ten in absurd (omega arith)) Memᴰ.not-nil (Memᴰ.cases_cons m)
 
-pub steps_never_10 : (room : List ℕ) (step : Step) (answer : StepAnswer) (room' : List ℕ) → Sound room → Steps room step answer room' → ¬ (answer ≡ Err (refusal RoomBroken 0))
-steps_never_10 room step answer room' s p e = not_10 step (p.numbered _ s.whole e)
+-- whatever its place
+pub steps_never_10 : (room : List ℕ) (step : Step) (answer : StepAnswer) (room' : List ℕ) → Sound room → Steps room step answer room' → (e : Refusal) → answer ≡ Err e → ¬ (number_of e.cause ≡ 10)
+steps_never_10 room step answer room' s p e is = not_10 step e (p.numbered e s.whole is)
