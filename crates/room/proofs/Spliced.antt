@@ -1,15 +1,14 @@
 -- A part of a list written over: one element more behind it, and a part that is the whole list; a list filled place after place. Assumes nothing.
-use Prim.Native.Nat.{ℕ, ◌+◌, ◌≤◌, ◌<◌}
+use Prim.Native.Nat.{ℕ, ◌+◌, ◌<◌}
 use mathlib.Core.Path.{◌≡◌, sym, ap, ◌∙◌}
 use mathlib.Core.List.{List, [], ◌∷◌, ◌++◌, append-nil}
 use native.Mathlib.Numerals.{add-one}
 use native.Mathlib.Omega.{arith}
 use borrow.Author.Count.{below_more}
-use lib.ListN.{length, take, drop, get_or, set, length-drop}
-use lib.Seq.{length-take-le, take-suc, take-add, drop-length, get_or-set_same, get_or-set_other}
-use borrow.Rule.Slice.PartMut.{put_mid}
+use lib.ListN.{length, take, drop, get_or, set}
+use lib.Seq.{length-take-le, take-suc, drop-length, get_or-set_same, get_or-set_other}
 use Rattle.numbers.specs.Spliced.{spliced}
-use Rattle.numbers.proofs.Spliced.{spliced_front, set-spliced, spliced_twice, length-spliced, put_mid-spliced}
+use Rattle.numbers.proofs.Spliced.{spliced_front, set-spliced, spliced_twice, length-spliced}
 
 module _ {A : Type 0} where
   pub set-behind : (xs : List A) (a : ℕ) (ys : List A) (i : ℕ) (v : A) → a + length ys ≡ i → i < length xs
@@ -24,17 +23,6 @@ module _ {A : Type 0} where
   set-take-behind xs a from i d h k =
       set-behind xs a (take i from) (a + i) (get_or from i d) (omega (arith, length-take-le i from (omega arith))) h
       ∙ ap (spliced xs a) (rw (add-one, take-suc from i d))
-
-  -- a stretch of it behind a front of it is a longer front
-  pub put-take-behind : (xs : List A) (a : ℕ) (from : List A) (i n b k : ℕ) (ys : List A) → a + i + n ≤ length xs → i + n ≤ length from → b ≡ a + i → k ≡ n → ys ≡ take n (drop i from)
-      → put_mid b k (spliced xs a (take i from)) ys ≡ spliced xs a (take (i + n) from)
-  put-take-behind xs a from i n b k ys h l at long is =
-      let many : length (take n (drop i from)) ≡ n = length-take-le n (drop i from) (omega (arith, length-drop i from)) in
-      let front : length (take i from) ≡ i = length-take-le i from (omega arith) in
-      put_mid-spliced b k (spliced xs a (take i from)) ys (omega (arith, ap length is, many))
-      ∙ ap (spliced (spliced xs a (take i from)) b) is
-      ∙ spliced_twice xs a (take i from) (omega arith) b (take n (drop i from)) (omega (arith, front))
-      ∙ ap (spliced xs a) (sym (take-add i n from))
 
   pub spliced-whole : (xs ys : List A) → length ys ≡ length xs → spliced xs 0 ys ≡ ys
   spliced-whole xs ys e =

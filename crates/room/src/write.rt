@@ -13,23 +13,13 @@ use crate::layout::{
 use crate::table::put_table;
 use reading::Reading;
 
-// How many bytes go through registers at once.
-const BLOCK: usize = 16;
-
-// The first n bytes of `from` in a part, from `at` on: in blocks, and the rest byte by byte. Of a stretch of any length the library's `copy_from_slice` asks for the C library's `memmove`, where
-// a compiler can't see that the two slices are apart.
+// The first n bytes of `from` in a part, from `at` on: byte by byte, of which a compiler makes blocks or the C library's `memcpy`. Of slices that it can't see to be apart the library's
+// `copy_from_slice` asks for `memmove` besides.
 pub fn copy_at(part: &mut [u8], at: usize, from: &[u8], n: usize)
     requires { (at + n ≤ length part.old) × (n ≤ length from.now) }
     ensures { part.new ≡ spliced part.old at (take n from.now) }
 {
-    let blocks = n / BLOCK;
-    for b in 0..blocks {
-        let i = b * BLOCK;
-        let mut block = [0; BLOCK];
-        block.copy_from_slice(&from[i..i + BLOCK]);
-        part[at + i..at + i + BLOCK].copy_from_slice(&block);
-    }
-    for i in blocks * BLOCK..n {
+    for i in 0..n {
         part[at + i] = from[i];
     }
 }
