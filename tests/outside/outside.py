@@ -8,6 +8,8 @@ DRIVER_COMMAND runs the program of driver.c.  What is tried:
   after every step, the memories and tokens decoded from the room's bytes by
   the table of docs/ROOM.md alone, and lines into buffers of every length;
 - refusals: each number of each call, in the order in which they are tried;
+- order: rooms in which the readings do not ascend, which no call leaves; a
+  step still finds a reading where halving comes to it, as it always did;
 - damage: rooms changed at random and rooms of random bytes, with guard bytes
   around what is lent; a call always comes back, nothing outside changes and a
   refusal changes nothing; where the rule of docs/ROOM.md says broken it is 10,
@@ -367,6 +369,51 @@ def refusal_cases(script):
         ask_check(script, False)
 
 
+# ------------------------------------------------------------------ the order
+
+def place_by_halving(readings, reading):
+    """Where a step looks for a reading: behind those that come before it, if they ascend."""
+    low, high = 0, len(readings)
+    while low < high:
+        middle = (low + high) // 2
+        if readings[middle] < reading:
+            low = middle + 1
+        else:
+            high = middle
+    return low
+
+
+def order_case(rng, script):
+    """Readings of which no rule asks anything, their slots shuffled in the room's bytes."""
+    count, E = rng.randint(2, 12), rng.choice((12, 256))
+    script.send("N", number(formula(E, 1), 4), number(0, 1))
+    script.send("O", slice_of(b"\x09"), number(E, 8), number(1, 8))
+    script.expect(is_line(f"0 {SENTINEL}"), "open")
+    readings = [(1, 1, 2 * i) for i in range(count)]
+    for i, reading in enumerate(readings):
+        script.send("A", *(number(x, 4) for x in reading))
+        script.expect(is_line(f"0 {i + 1} 0 0"), f"add {reading}")
+    # Added in their order, each took the slot of its own number.
+    slots = rng.sample(range(count), count)
+    for i, slot in enumerate(slots):
+        script.send("P", number(ORDER + i, 4), number(slot, 1))
+    held_now = [readings[slot] for slot in slots]
+    for _ in range(12):
+        adding, reading = rng.random() < 0.5, (1, 1, rng.randint(0, 2 * count))
+        place = place_by_halving(held_now, reading)
+        present = place < len(held_now) and held_now[place] == reading
+        if adding:
+            refusal = 11 if present else 13 if len(held_now) == E else 0
+        else:
+            refusal = 0 if present else 12
+        if refusal == 0:
+            held_now[place:place + (not adding)] = [reading] if adding else []
+        script.send("A" if adding else "R", *(number(x, 4) for x in reading))
+        script.expect(is_line(f"0 {len(held_now)} 0 0" if refusal == 0 else f"{refusal} {SENTINEL} {SENTINEL} {SENTINEL}"),
+                      f"{'add' if adding else 'remove'} {reading} where {held_now} stand")
+        ask_check(script, held_now == sorted(set(held_now)))
+
+
 # ----------------------------------------------------------------- the damage
 
 NUMBERS = {"A": (0, 11, 13, 14), "R": (0, 12), "L": (0, 15, 16)}
@@ -498,6 +545,7 @@ def main(words):
     groups = [("refusals", 1, lambda rng, script: refusal_cases(script)),
               ("buffers", 1, lambda rng, script: buffer_cases(script)),
               ("runs", 6 * scale, run_case),
+              ("order", scale, order_case),
               ("damage", 6 * scale, damage_case)]
     for name, count, case in groups:
         calls = 0

@@ -7,7 +7,10 @@ use native.Mathlib.Numerals.{add-one}
 use native.Mathlib.Omega.{arith}
 use lib.ListN.{length, take, drop, set, replicate, length-append, length-set, take-append-drop}
 use lib.Seq.{append_snoc, take-suc-set, drop-set-lt, drop-drop}
+use types.Run.{OneOf, hit}
+use denote.Enum.Declared.{tag_of}
 use Rattle.std.specs.Prelude.{Some, None, Result, Ok, Err}
+use Rattle.book.specs.contracts.record.Record.{the_type}
 use Rattle.book.specs.declared.record.Record.{Record}
 use Rattle.book.specs.declared.record.Record.TheVariants as r
 use Rattle.book.specs.declared.record.Test.{Test}
@@ -24,6 +27,13 @@ NoTest (Ok r.Condition) = Unit {0}
 NoTest (Ok (r.Test t)) = ⊥
 NoTest (Ok r.End) = Unit {0}
 NoTest (Err e) = Unit {0}
+
+-- the tags that a record can have which is no test
+pub tag_unless-test : (rec : Record) → ((t : Test) → rec ≡ r.Test t → ⊥) → OneOf (0 ∷ 1 ∷ 3 ∷ []) (tag_of the_type rec)
+tag_unless-test (r.Rule n) h = hit (0 ∷ 1 ∷ 3 ∷ []) 0 tt
+tag_unless-test r.Condition h = hit (0 ∷ 1 ∷ 3 ∷ []) 1 tt
+tag_unless-test (r.Test t) h = absurd (h t refl)
+tag_unless-test r.End h = hit (0 ∷ 1 ∷ 3 ∷ []) 3 tt
 
 pub no_test : (rec : Result Record Refusal) → None ≡ test_in rec → NoTest rec
 unfolding test_in

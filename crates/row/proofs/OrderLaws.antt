@@ -14,6 +14,7 @@ use lib.Seq.{drop-cons, drop-drop, take_at, take-suc, take-take, set_at, split_a
 use Rattle.std.proofs.lemmas.List.{get_or_default}
 use Rattle.std.specs.List.Sorted.{IsPartitionPoint, IsPartitionedBy}
 use borrow.Rule.Slice.PartMut.{put_mid}
+use Rattle.numbers.specs.Spliced.{spliced}
 use Rattle.reading.specs.declared.Reading.{Reading}
 use Rattle.reading.specs.Reading.{is_less, reading_at}
 use Rattle.matching.specs.Order.{Less, Sorted, first, Each}
@@ -22,7 +23,7 @@ use Rattle.room.specs.Held.{times, Once}
 use Rattle.room.proofs.Order.{times-append}
 use Rattle.row.specs.Row.{leading, lesser, moved_in, moved_out}
 use Rattle.weave.proofs.Grown.{le_or_lt}
-use Rattle.weave.proofs.SplicedLaws.{length_stretch, stretch_up_to}
+use Rattle.weave.proofs.SplicedLaws.{length_stretch, put-copied, stretch_up_to}
 
 -- ---- lists
 
@@ -142,21 +143,22 @@ moved_in-set l p n long low high =
     ∙ set_at (take p l) (get_or l p 0) (m ++ drop (n + 1) l) v p (length-take-le p l (omega arith))
     ∙ rw (stretch_up_to l p n low (omega arith))
 
--- the order as `take_from` leaves it: the slots behind p written where they go, and then the slot of p set behind them
-pub moved_out-set : (l : List ℕ) (p n : ℕ) → p < n → n ≤ length l → set (put_mid p (n - 1 - p) l (take (n - (p + 1)) (drop (p + 1) l))) (n - 1) (get_or l p 0) ≡ moved_out l p n
-moved_out-set l p n low high =
+-- the order as `take_from` leaves it: the slots behind p moved down, and then the slot of p set behind them
+pub moved_out-set : (l l1 : List ℕ) (p n : ℕ) → p < n → n ≤ length l → l1 ≡ spliced l p (take (n - 1 - p) (drop (p + 1) l)) → set l1 (n - 1) (get_or l p 0) ≡ moved_out l p n
+moved_out-set l l1 p n low high e =
     let v : ℕ = get_or l p 0 in
     let m : List ℕ = take (n - (p + 1)) (drop (p + 1) l) in
     let x : ℕ = get_or l (n - 1) 0 in
     let up : m ≡ drop (p + 1) (take n l) = stretch_up_to l (p + 1) n (omega arith) (omega arith) in
     let many : length m ≡ n - (p + 1) = length_stretch l (p + 1) (n - (p + 1)) (omega arith) in
     let rest : drop (n - 1 - p) (drop p l) ≡ x ∷ drop n l =
-    let e : p + (n - 1 - p) ≡ n - 1 = omega arith in
+    let d : p + (n - 1 - p) ≡ n - 1 = omega arith in
     let f : suc (n - 1) ≡ n = omega arith in
-    drop-drop (n - 1 - p) p l ∙ ap (λ (k : ℕ). drop k l) e ∙ drop-cons l (n - 1) 0 (omega arith) ∙ ap (λ (k : ℕ). x ∷ drop k l) f in
+    drop-drop (n - 1 - p) p l ∙ ap (λ (k : ℕ). drop k l) d ∙ drop-cons l (n - 1) 0 (omega arith) ∙ ap (λ (k : ℕ). x ∷ drop k l) f in
     let long : length (take p l ++ m) ≡ n - 1 = omega (arith, length-append (take p l) m, length-take-le p l (omega arith)) in
     let is : put_mid p (n - 1 - p) l m ≡ (take p l ++ m) ++ x ∷ drop n l = rw rest (sym (append_assoc (take p l) m (x ∷ drop n l))) in
-    ap (λ (z : List ℕ). set z (n - 1) v) is
+    let down : put_mid p (n - 1 - p) l m ≡ spliced l p (take (n - 1 - p) (drop (p + 1) l)) = put-copied l l p (p + 1) (n - 1 - p) (omega arith) refl (omega arith) refl in
+    ap (λ (z : List ℕ). set z (n - 1) v) (e ∙ sym down ∙ is)
     ∙ set_at (take p l ++ m) x (drop n l) v (n - 1) long
     ∙ append_assoc (take p l) m (v ∷ drop n l)
     ∙ ap (λ (z : List ℕ). take p l ++ (z ++ v ∷ drop n l)) up

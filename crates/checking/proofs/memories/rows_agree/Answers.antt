@@ -37,12 +37,12 @@ pub row_agrees-requires : goal.row_agrees-requires
 row_agrees-requires c =
     let a = c.loop-i.invariant.0 in
     let slot = c.type_inv.room (8816 + c.loop-i.i) in
-    (simp (length-take, length-drop) (omega arith), ((c.make_row.ensures _ (rules_few _ _ _ _ a) (conditions_are _ _ _ _ a)).0.long, omega arith))
+    (simp (length-take, length-drop) (omega arith), ((c.make_row.ensures.made _ (rules_few _ _ _ _ a) (conditions_are _ _ _ _ a)).0.long, omega arith))
 
 pub returns-then-not-row_agrees : goal.returns-then-not-row_agrees
 returns-then-not-row_agrees c =
     let l = c.loop-i in
-    let R = (c.make_row.ensures _ (rules_few _ _ _ _ l.invariant.0) (conditions_are _ _ _ _ l.invariant.0)).0 in
+    let R = (c.make_row.ensures.made _ (rules_few _ _ _ _ l.invariant.0) (conditions_are _ _ _ _ l.invariant.0)).0 in
     no λ all.
     let own = (rows_known _ l.invariant.0.bounded).0 all l.i (omega arith) in
     let answered = row_known _ _ _ _ l.invariant.0 _ _ _ _ c.reading_at-w.ensures R c.row_agrees.ensures in
@@ -51,7 +51,7 @@ returns-then-not-row_agrees c =
 pub loop-i-preserved : goal.loop-i-preserved
 loop-i-preserved c =
     let l = c.loop-i in
-    let R = (c.make_row.ensures _ (rules_few _ _ _ _ l.invariant.0) (conditions_are _ _ _ _ l.invariant.0)).0 in
+    let R = (c.make_row.ensures.made _ (rules_few _ _ _ _ l.invariant.0) (conditions_are _ _ _ _ l.invariant.0)).0 in
     let answered = row_known _ _ _ _ l.invariant.0 _ _ _ _ c.reading_at-w.ensures R c.row_agrees.ensures in
     (l.invariant.0, below_more _ _ l.invariant.1 (answered.0 c.if-not-row_agrees.false))
 
