@@ -23,7 +23,7 @@ use Rattle.room.specs.Held.{times, Once}
 use Rattle.room.proofs.Order.{times-append}
 use Rattle.row.specs.Row.{leading, lesser, moved_in, moved_out}
 use Rattle.weave.proofs.Grown.{le_or_lt}
-use Rattle.weave.proofs.SplicedLaws.{length_stretch, put-copied, stretch_up_to}
+use Rattle.weave.proofs.SplicedLaws.{length_stretch, stretch_up_to}
 
 -- ---- lists
 
@@ -145,20 +145,21 @@ moved_in-set l p n long low high =
 
 -- the order as `take_from` leaves it: the slots behind p moved down, and then the slot of p set behind them
 pub moved_out-set : (l l1 : List ℕ) (p n : ℕ) → p < n → n ≤ length l → l1 ≡ spliced l p (take (n - 1 - p) (drop (p + 1) l)) → set l1 (n - 1) (get_or l p 0) ≡ moved_out l p n
+unfolding spliced
 moved_out-set l l1 p n low high e =
     let v : ℕ = get_or l p 0 in
-    let m : List ℕ = take (n - (p + 1)) (drop (p + 1) l) in
+    let m : List ℕ = take (n - 1 - p) (drop (p + 1) l) in
     let x : ℕ = get_or l (n - 1) 0 in
-    let up : m ≡ drop (p + 1) (take n l) = stretch_up_to l (p + 1) n (omega arith) (omega arith) in
-    let many : length m ≡ n - (p + 1) = length_stretch l (p + 1) (n - (p + 1)) (omega arith) in
-    let rest : drop (n - 1 - p) (drop p l) ≡ x ∷ drop n l =
-    let d : p + (n - 1 - p) ≡ n - 1 = omega arith in
+    let count : n - 1 - p ≡ n - (p + 1) = omega arith in
+    let up : m ≡ drop (p + 1) (take n l) = ap (λ (k : ℕ). take k (drop (p + 1) l)) count ∙ stretch_up_to l (p + 1) n (omega arith) (omega arith) in
+    let many : length m ≡ n - 1 - p = length_stretch l (p + 1) (n - 1 - p) (omega arith) in
+    let rest : drop (p + length m) l ≡ x ∷ drop n l =
+    let d : p + length m ≡ n - 1 = omega (arith, many) in
     let f : suc (n - 1) ≡ n = omega arith in
-    drop-drop (n - 1 - p) p l ∙ ap (λ (k : ℕ). drop k l) d ∙ drop-cons l (n - 1) 0 (omega arith) ∙ ap (λ (k : ℕ). x ∷ drop k l) f in
-    let long : length (take p l ++ m) ≡ n - 1 = omega (arith, length-append (take p l) m, length-take-le p l (omega arith)) in
-    let is : put_mid p (n - 1 - p) l m ≡ (take p l ++ m) ++ x ∷ drop n l = rw rest (sym (append_assoc (take p l) m (x ∷ drop n l))) in
-    let down : put_mid p (n - 1 - p) l m ≡ spliced l p (take (n - 1 - p) (drop (p + 1) l)) = put-copied l l p (p + 1) (n - 1 - p) (omega arith) refl (omega arith) refl in
-    ap (λ (z : List ℕ). set z (n - 1) v) (e ∙ sym down ∙ is)
+    ap (λ (k : ℕ). drop k l) d ∙ drop-cons l (n - 1) 0 (omega arith) ∙ ap (λ (k : ℕ). x ∷ drop k l) f in
+    let long : length (take p l ++ m) ≡ n - 1 = omega (arith, many, length-append (take p l) m, length-take-le p l (omega arith)) in
+    let is : l1 ≡ (take p l ++ m) ++ x ∷ drop n l = e ∙ rw rest (sym (append_assoc (take p l) m (x ∷ drop n l))) in
+    ap (λ (z : List ℕ). set z (n - 1) v) is
     ∙ set_at (take p l ++ m) x (drop n l) v (n - 1) long
     ∙ append_assoc (take p l) m (v ∷ drop n l)
     ∙ ap (λ (z : List ℕ). take p l ++ (z ++ v ∷ drop n l)) up

@@ -35,9 +35,8 @@ make_row-requires c = row-asked _ _ _ _ c.loop-i.invariant.0
 
 pub row_agrees-requires : goal.row_agrees-requires
 row_agrees-requires c =
-    let a = c.loop-i.invariant.0 in
     let slot = c.type_inv.room (8816 + c.loop-i.i) in
-    (simp (length-take, length-drop) (omega arith), ((c.make_row.ensures.made _ (rules_few _ _ _ _ a) (conditions_are _ _ _ _ a)).0.long, omega arith))
+    (simp (length-take, length-drop) (omega arith), (c.make_row.ensures.long.0, omega arith))
 
 pub returns-then-not-row_agrees : goal.returns-then-not-row_agrees
 returns-then-not-row_agrees c =
